@@ -1,0 +1,6 @@
+pub mod Rows
+mod Bits
+mod LaneLemmas
+mod NextLemmas
+mod CountLemmas
+mod Views

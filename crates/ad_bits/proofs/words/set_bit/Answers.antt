@@ -1,0 +1,18 @@
+use Rattle.std.proofs.Common.{ℕ, ap, eqb, get_or, arith, bit_or, w64, ◌∙◌, ◌*◌, ◌^◌, ◌/◌, ◌%◌}
+use Rattle.std.proofs.lemmas.Nat.Bits.{bit_at_set_same, bit_at_set_other}
+use Rattle.ad_bits.proofs.Bits.{written_same, written_other}
+use Rattle.ad_bits.proofs.words.set_bit.Goals as goal
+
+pub returns-clause-set : goal.returns-clause-set
+returns-clause-set c =
+    let words = c.args.words.now in
+    let i = c.args.i in
+    let value : ℕ = bit_or (get_or words (i / 64) 0) (1 * 2 ^ (i % 64) % 2 ^ 64) in
+    written_same words i value c.requires ∙ ap (λ n. eqb n 1) (bit_at_set_same w64 (get_or words (i / 64) 0) (i % 64) (omega arith))
+
+pub returns-clause-others : goal.returns-clause-others
+returns-clause-others c =
+    let words = c.args.words.now in
+    let i = c.args.i in
+    let value : ℕ = bit_or (get_or words (i / 64) 0) (1 * 2 ^ (i % 64) % 2 ^ 64) in
+    written_other words i value c.requires (λ j within away. bit_at_set_other w64 (get_or words (i / 64) 0) (i % 64) (omega arith) j away)

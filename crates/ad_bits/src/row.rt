@@ -1,0 +1,283 @@
+ghost use Rattle.std.specs.Prelude.{◌≡◌, ◌≢◌, ℕ, ◌<◌, ◌≤◌, ◌↔◌, not, ◌&&◌, ◌||◌, true, false, length, replicate, set, IsTrue, IsFalse, IfOk, IfSome, IfNone, IsNone};
+ghost use Rattle.std.specs.Bool.{OnFalse};
+ghost use Rattle.ad_bits.specs.Rows.{has, union, minus, member_count, IsSubset, HasOutside, Meets, IsLeastFrom, HasNoneFrom};
+
+use crate::memory::Memory;
+use crate::{lanes, words};
+use std::alloc::Global;
+use std::marker::Model;
+
+/// A set of numbers below its size. Contracts see it as a list with one `Bool` for each number.
+#[derive(Debug, Drop)]
+pub struct Row {
+    size: u32,
+    words: Vec<u64>,
+}
+
+impl Model for Row {
+    ghost use Rattle.std.specs.Prelude.{List, Bool};
+    ghost use Rattle.ad_bits.specs.Words.{first_bits, AreWordsOf};
+
+    ghost Value = { List Bool };
+
+    ghost view = { λ row. first_bits row.size row.words.items };
+
+    ghost invariant = { λ row. AreWordsOf row.size row.words.items };
+}
+
+impl Row {
+    /// The empty row of this size.
+    pub fn new(alloc: Global, size: u32) -> Result<Row, Memory>
+        ensures row { IfOk result (λ row. row ≡ replicate size false) }
+        ensures size { IfOk result (λ row. length row ≡ size) }
+        ensures empty { IfOk result (λ row. (i : ℕ) → IsFalse (has row i)) }
+    {
+        let vectors = (size as usize).div_ceil(256);
+        Ok(Row {
+            size,
+            words: vec![in alloc; 0u64; 4 * vectors]?,
+        })
+    }
+
+    /// The numbers below it may be members.
+    pub fn size(&self) -> u32
+        ensures { result ≡ length self.now }
+    {
+        self.size
+    }
+
+    /// Whether the number is a member.
+    pub fn has(&self, i: u32) -> bool
+        requires { i < length self.now }
+        ensures { result ≡ has self.now i }
+    {
+        words::test_bit(&self.words, i as usize)
+    }
+
+    /// Makes the number a member.
+    pub fn set(&mut self, i: u32)
+        requires { i < length self.old }
+        ensures row { self.new ≡ set self.old i true }
+        ensures size { length self.new ≡ length self.old }
+        ensures member { IsTrue (has self.new i) }
+        ensures others { (k : ℕ) → k ≢ i → has self.new k ≡ has self.old k }
+    {
+        words::set_bit(&mut self.words, i as usize);
+    }
+
+    /// Makes the number no member.
+    pub fn unset(&mut self, i: u32)
+        requires { i < length self.old }
+        ensures row { self.new ≡ set self.old i false }
+        ensures size { length self.new ≡ length self.old }
+        ensures no_member { IsFalse (has self.new i) }
+        ensures others { (k : ℕ) → k ≢ i → has self.new k ≡ has self.old k }
+    {
+        words::unset_bit(&mut self.words, i as usize);
+    }
+
+    /// Leaves no member.
+    pub fn clear(&mut self)
+        ensures row { self.new ≡ replicate (length self.old) false }
+        ensures size { length self.new ≡ length self.old }
+        ensures empty { (i : ℕ) → IsFalse (has self.new i) }
+    {
+        lanes::clear_words(&mut self.words);
+    }
+
+    /// How many members there are.
+    pub fn count(&self) -> u32
+        ensures { result ≡ member_count self.now }
+    {
+        words::count_bits(&self.words) as u32
+    }
+
+    /// Takes over the members of the other row.
+    pub fn copy_from(&mut self, other: &Row)
+        requires { length self.old ≡ length other.now }
+        ensures { self.new ≡ other.now }
+    {
+        lanes::copy_words(&mut self.words, &other.words);
+    }
+
+    /// Adds the members of the other row.
+    pub fn union_with(&mut self, other: &Row)
+        requires { length self.old ≡ length other.now }
+        ensures row { self.new ≡ union self.old other.now }
+        ensures size { length self.new ≡ length self.old }
+        ensures members { (i : ℕ) → has self.new i ≡ (has self.old i || has other.now i) }
+    {
+        lanes::join_words(&mut self.words, &other.words);
+    }
+
+    /// Takes the members of the other row away.
+    pub fn minus_with(&mut self, other: &Row)
+        requires { length self.old ≡ length other.now }
+        ensures row { self.new ≡ minus self.old other.now }
+        ensures size { length self.new ≡ length self.old }
+        ensures members { (i : ℕ) → has self.new i ≡ (has self.old i && not (has other.now i)) }
+    {
+        lanes::remove_words(&mut self.words, &other.words);
+    }
+
+    /// Whether both rows have the same members.
+    pub fn same(&self, other: &Row) -> bool
+        requires { length self.now ≡ length other.now }
+        ensures { IsTrue result ↔ (self.now ≡ other.now) }
+    {
+        lanes::same_words(&self.words, &other.words)
+    }
+
+    /// Whether each member is a member of the other row.
+    pub fn is_subset(&self, other: &Row) -> bool
+        requires { length self.now ≡ length other.now }
+        ensures subset { IsTrue result ↔ IsSubset self.now other.now }
+        ensures outside { OnFalse result (HasOutside self.now other.now) }
+    {
+        lanes::are_within(&self.words, &other.words)
+    }
+
+    /// Whether the rows have a member in common.
+    pub fn meets(&self, other: &Row) -> bool
+        requires { length self.now ≡ length other.now }
+        ensures { IsTrue result ↔ Meets self.now other.now }
+    {
+        lanes::share_bit(&self.words, &other.words)
+    }
+
+    /// The least member at or above `from`.
+    pub fn next(&self, from: u32) -> Option<u32>
+        requires { from ≤ length self.now }
+        ensures some { IfSome result (IsLeastFrom self.now from) }
+        ensures none { IfNone result (HasNoneFrom self.now from) }
+    {
+        words::next_bit(&self.words, from)
+    }
+}
+
+#[cfg(test)]
+mod tests {
+    use super::*;
+    use std::test::Fail;
+
+    // A row of this size whose members are the multiples of the step.
+    fn multiples(alloc: Global, size: u32, step: u32) -> Result<Row, Memory>
+        requires { 0 < step }
+        ensures { IfOk result (λ row. length row ≡ size) }
+    {
+        let mut row = Row::new(alloc, size)?;
+        for i in 0..size {
+            if i % step == 0 {
+                row.set(i);
+            }
+        }
+        Ok(row)
+    }
+
+    // The members that a row is to have.
+    #[derive(Clone, Copy)]
+    enum Members {
+        None,
+        Threes,
+        Either,
+        FivesAlone,
+    }
+
+    fn is_expected(members: Members, i: u32) -> bool {
+        match members {
+            Members::None => false,
+            Members::Threes => i % 3 == 0,
+            Members::Either => i % 3 == 0 || i % 5 == 0,
+            Members::FivesAlone => i % 5 == 0 && i % 3 != 0,
+        }
+    }
+
+    // Whether the row has these members and no others.
+    fn has_exactly(row: &Row, members: Members) -> bool {
+        for i in 0..row.size() {
+            if row.has(i) != is_expected(members, i) {
+                return false;
+            }
+        }
+        true
+    }
+
+    // Whether `next` finds the next multiple of 3 from each number on.
+    fn finds_threes(row: &Row) -> bool {
+        let size = row.size();
+        for from in 0..size {
+            let next = (u64::from(from) + 2) / 3 * 3;
+            let expected = if next < u64::from(size) {
+                Some(next)
+            } else {
+                None
+            };
+            if row.next(from).map(u64::from) != expected {
+                return false;
+            }
+        }
+        row.next(size).is_none()
+    }
+
+    // Whether the calls that read answer as they are to on the multiples of 3 and of 5.
+    fn reads_agree(threes: &Row, fives: &Row) -> bool
+        requires { length threes.now ≡ length fives.now }
+    {
+        let size = threes.size();
+        u64::from(threes.count()) == (u64::from(size) + 2) / 3
+            && has_exactly(threes, Members::Threes)
+            && finds_threes(threes)
+            && threes.meets(fives) == (size > 0)
+            && threes.same(fives) == (size <= 3)
+            && fives.is_subset(threes) == (size <= 5)
+    }
+
+    // Whether the calls that change an empty row leave what they are to.
+    fn changes_agree(row: &mut Row, threes: &Row, fives: &Row) -> bool
+        requires threes { length row.old ≡ length threes.now }
+        requires fives { length row.old ≡ length fives.now }
+    {
+        let is_empty = has_exactly(row, Members::None) && row.next(0).is_none();
+        row.copy_from(threes);
+        let is_copy = row.same(threes);
+        row.union_with(fives);
+        let is_union = has_exactly(row, Members::Either) && fives.is_subset(row);
+        row.minus_with(threes);
+        let is_rest = has_exactly(row, Members::FivesAlone) && !row.meets(threes);
+        row.clear();
+        let is_clear = has_exactly(row, Members::None);
+        is_empty && is_copy && is_union && is_rest && is_clear
+    }
+
+    // Compiles at a type whose values may go to another thread and be shared there.
+    fn crosses_threads<T: Send + Sync>(_value: &T) -> bool {
+        true
+    }
+
+    // Whether the last number comes and goes.
+    fn last_agrees(row: &mut Row) -> bool {
+        let size = row.size();
+        if size == 0 {
+            return true;
+        }
+        row.set(size - 1);
+        let came = row.has(size - 1);
+        row.unset(size - 1);
+        came && !row.has(size - 1)
+    }
+
+    #[test]
+    fn rows_are_sets(rt: HostRuntime) -> Result<(), Fail> {
+        for size in [0, 1, 63, 64, 65, 256, 300] {
+            let threes = multiples(rt.alloc(), size, 3)?;
+            let fives = multiples(rt.alloc(), size, 5)?;
+            let mut row = Row::new(rt.alloc(), size)?;
+            assert_eq!(rt; row.size(), size);
+            assert!(rt; crosses_threads(&row), "at {size}");
+            assert!(rt; reads_agree(&threes, &fives), "at {size}");
+            assert!(rt; changes_agree(&mut row, &threes, &fives), "at {size}");
+            assert!(rt; last_agrees(&mut row), "at {size}");
+        }
+        Ok(())
+    }
+}

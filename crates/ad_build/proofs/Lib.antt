@@ -1,0 +1,11 @@
+pub mod Tops
+pub mod Readings
+pub mod Arguments
+pub mod Phrases
+pub mod ClassPhrases
+pub mod AxiomPhrases
+pub mod Uniqueness
+pub mod Numbers
+pub mod Prefixed
+pub mod TextLemmas
+pub mod HeadLemmas

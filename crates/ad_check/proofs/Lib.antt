@@ -1,0 +1,16 @@
+pub mod Tables
+pub mod Readings
+pub mod Numerals
+pub mod Single
+pub mod Taken
+pub mod Phrased
+pub mod Stated
+pub mod Wholes
+pub mod Meant
+pub mod Spelled
+pub mod Sound
+pub mod Rests
+pub mod FirstFault
+pub mod Checked
+pub mod Decided
+pub mod Nested

@@ -1,0 +1,16 @@
+use Rattle.std.proofs.Common.{refl, subst}
+use Rattle.ad_lex.specs.Lexemes.{lexemes}
+use Rattle.ad_grammar.specs.Faults as form
+use Rattle.ad_check.specs.Stops.{Checks}
+use Rattle.ad_check.proofs.Checked.{text_ok, text_first, text_what}
+use Rattle.ad_check.proofs.texts.check_axiom.Goals as goal
+
+pub returns : goal.returns
+returns c =
+    let ts = lexemes c.args.text.now c.args.tokens.now in
+    let checks : Checks form.single ts c.check_text.result = subst (λ tokens. Checks form.single (lexemes c.args.text.now tokens) c.check_text.result) c.list.ensures.value (c.check_text.ensures form.single refl) in
+    record {
+      ok = text_ok form.single ts c.check_text.result checks;
+      first = text_first form.single ts c.check_text.result checks;
+      what = text_what form.single ts c.check_text.result checks;
+    }

@@ -1,0 +1,4 @@
+pub mod EditionsLemmas
+pub mod KeptLemmas
+pub mod OwnersLemmas
+pub mod LookLemmas

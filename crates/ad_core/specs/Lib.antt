@@ -1,0 +1,5 @@
+pub mod State
+pub mod Sights
+pub mod Editions
+pub mod Events
+pub mod Kept

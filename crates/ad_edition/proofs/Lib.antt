@@ -1,0 +1,5 @@
+pub mod OntologyLemmas
+pub mod PlacesLemmas
+pub mod WorkingLemmas
+pub mod StepLemmas
+pub mod LogLemmas

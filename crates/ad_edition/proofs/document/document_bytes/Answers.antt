@@ -1,0 +1,19 @@
+-- The line of one more axiom.
+use Rattle.std.proofs.Common.{◌≡◌, ◌+◌, ◌∷◌, ◌++◌, [], length, take, ap, sym, ◌∙◌, append-nil, arith}
+use Rattle.std.specs.Arc.{arc_value}
+use Rattle.std.proofs.lemmas.List.{take_more}
+use Rattle.ad_tree.specs.declared.axioms.Noted.{Noted}
+use Rattle.ad_write.specs.Canonical.{canon, canon_document}
+use Rattle.ad_edition.specs.Places.{values}
+use Rattle.ad_edition.proofs.WorkingLemmas.{value_at, length-values}
+use Rattle.ad_edition.proofs.document.document_bytes.Goals as goal
+
+pub loop-noted-preserved : goal.loop-noted-preserved
+loop-noted-preserved c =
+    let all = values c.args.axioms.now in
+    let i = c.loop-noted.noted-index in
+    let noted = arc_value c.noted-item.result in
+    let longer : take (i + 1) all ≡ take i all ++ noted ∷ [] = take_more all i noted (omega (arith, length-values c.args.axioms.now)) ∙ ap (λ (a : Noted). take i all ++ a ∷ []) (value_at c.args.axioms.now i c.noted-item.result (omega arith) c.noted-item.is noted) in
+    let before : c.loop-noted.bytes ≡ length (canon_document (take i all ++ [])) = c.loop-noted.invariant ∙ ap (λ (axioms : _). length (canon_document axioms)) (sym (append-nil (take i all))) in
+    let line : c.in_ok-bytes.bytes ≡ c.loop-noted.bytes + length (canon noted) + 1 = c.in_ok-bytes.ensures ∙ ap (λ (a : Noted). c.loop-noted.bytes + length (canon a) + 1) c.deref.ensures in
+    line ∙ ap (λ n. n + length (canon noted) + 1) before ∙ sym (c.document_length.ensures.each (take i all) [] noted) ∙ ap (λ (axioms : _). length (canon_document axioms)) (sym longer)

@@ -1,0 +1,10 @@
+pub mod Same
+pub mod Apply
+pub mod Log
+pub mod Limit
+pub mod Sight
+pub mod Edition
+pub mod Places
+pub mod Steps
+pub mod Working
+pub mod Laws

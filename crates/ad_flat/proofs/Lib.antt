@@ -1,0 +1,9 @@
+pub mod DistinctLemmas
+pub mod NumberLemmas
+pub mod ListLemmas
+pub mod SlotLemmas
+pub mod AddingLemmas
+pub mod CarryLemmas
+pub mod TreeLemmas
+pub mod KindOfTreesLemmas
+pub mod AlikeLemmas

@@ -1,0 +1,13 @@
+use Rattle.std.proofs.Common.{◌≡◌, ℕ, Some, take, IsTrue}
+use Rattle.std.specs.Option.{IsSome}
+use Rattle.ad_tree.specs.Entities.{has_entity}
+use Rattle.ad_tree.specs.declared.entities.Entity.{Entity}
+use Rattle.ad_signature.specs.Numbering.{number_in}
+use Rattle.ad_flat.proofs.adding.enter_all.Given as goal
+
+abbrev pub invariant-loop-entity : goal.invariant-loop-entity
+invariant-loop-entity l = record {
+  named : (e : Entity) → IsTrue (has_entity (take l.entity-index l.entities) e) → IsSome (number_in l.symbols.names e);
+  kept : (e : Entity) (n : ℕ) → number_in l.initial.symbols.names e ≡ Some n → number_in l.symbols.names e ≡ Some n;
+  limit : l.symbols.limit ≡ l.initial.symbols.limit;
+}

@@ -1,0 +1,6 @@
+pub mod Distinct
+pub mod Held
+pub mod Places
+pub mod Numbering
+pub mod Trees
+pub mod Laws

@@ -1,0 +1,5 @@
+use Rattle.ad_items.proofs.Splitting.{splits_once}
+use Rattle.ad_items.proofs.laws.one_split.Goals as goal
+
+pub returns : goal.returns
+returns c = splits_once

@@ -1,0 +1,10 @@
+pub mod CharKinds
+pub mod Keywords
+pub mod Meanings
+pub mod Once
+pub mod Pieces
+pub mod Readings
+pub mod Steps
+pub mod Strings
+pub mod Sayings
+pub mod Writing

@@ -1,0 +1,2 @@
+pub mod WordSetLemmas
+pub mod MemberLemmas

@@ -1,0 +1,6 @@
+pub mod Declarations
+pub mod Forms
+pub mod Opening
+pub mod Outcomes
+pub mod Phrases
+pub mod Uniqueness

@@ -1,0 +1,4 @@
+pub mod Replies
+pub mod Bodies
+pub mod Written
+pub mod Counted

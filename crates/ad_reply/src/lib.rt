@@ -1,0 +1,12 @@
+//! The replies of a session.
+#![tactic(auto)]
+
+pub use answers::{edit_reply, export_reply, module_reply};
+pub use refusal::{Refusal, refuse};
+
+mod answers;
+mod counts;
+mod decimal;
+mod refusal;
+#[cfg(test)]
+mod tests;

@@ -1,0 +1,7 @@
+-- By what `strip_prefix` says where `==` at the elements decides.
+use Rattle.std.proofs.lemmas.Bool.Decides.{Decides-eqb}
+use Rattle.std.proofs.lemmas.Slice.Eq.{strip_prefix_is}
+use Rattle.ad_request.proofs.request.behind.Goals as goal
+
+pub returns : goal.returns
+returns c = strip_prefix_is Decides-eqb c.args.line.now c.args.words.now c.strip_prefix.result c.strip_prefix.ensures.cases

@@ -1,0 +1,63 @@
+-- The lines of a session and what they ask for. A line stands here without the line feed that ends it.
+use Rattle.std.specs.Prelude.{◌≡◌, ℕ, ◌^◌, ◌<◌, List, ◌++◌, Option, None, Some, codes, decimal}
+use Rattle.ad_base.specs.declared.limits.Kind.{Kind}
+use Rattle.ad_base.specs.declared.limits.Kind.TheVariants as kinds
+use Rattle.ad_request.specs.declared.request.Request.{Request}
+use Rattle.ad_request.specs.declared.request.Request.TheVariants.{Load, Edit, Module, Genuine, Atoms, Atom, Export, Stat, Quit}
+
+-- the word of a kind of module
+abbrev pub kind_word : Kind → List ℕ
+kind_word kinds.Bottom = codes "bottom"
+kind_word kinds.Top = codes "top"
+kind_word kinds.Star = codes "star"
+
+-- the line of a request: words with one space between them
+abbrev pub request_line : Request → List ℕ
+request_line (Load n) = codes "LOAD " ++ decimal n
+request_line (Edit n) = codes "EDIT " ++ decimal n
+request_line (Module kind n) = codes "MODULE " ++ kind_word kind ++ codes " " ++ decimal n
+request_line (Genuine kind n) = codes "GENUINE " ++ kind_word kind ++ codes " " ++ decimal n
+request_line (Atoms kind) = codes "ATOMS " ++ kind_word kind
+request_line (Atom kind n) = codes "ATOM " ++ kind_word kind ++ codes " " ++ decimal n
+request_line Export = codes "EXPORT"
+request_line Stat = codes "STAT"
+request_line Quit = codes "QUIT"
+
+-- a number in a line has one to ten digits
+abbrev pub IsSpelledShort : ℕ → Type 0
+IsSpelledShort n = n < 10 ^ 10
+
+-- the requests that are offered so far
+abbrev pub IsOffered : Request → Type 0
+IsOffered (Load n) = ⊥
+IsOffered (Edit n) = IsSpelledShort n
+IsOffered (Module kinds.Bottom n) = IsSpelledShort n
+IsOffered (Module kinds.Top n) = ⊥
+IsOffered (Module kinds.Star n) = ⊥
+IsOffered (Genuine kind n) = ⊥
+IsOffered (Atoms kind) = ⊥
+IsOffered (Atom kind n) = ⊥
+IsOffered Export = Unit {0}
+IsOffered Stat = ⊥
+IsOffered Quit = Unit {0}
+
+-- what a line asks for, or that it asks for nothing
+abbrev pub Asks : List ℕ → Option Request → Type 0
+Asks line (Some request) = IsOffered request × (line ≡ request_line request)
+Asks line None = (request : Request) → IsOffered request → line ≡ request_line request → ⊥
+
+-- how many bytes the payload has that stands behind a line
+abbrev pub payload_size : Request → ℕ
+payload_size (Load n) = n
+payload_size (Edit n) = n
+payload_size (Module kind n) = n
+payload_size (Genuine kind n) = n
+payload_size (Atoms kind) = 0
+payload_size (Atom kind n) = 0
+payload_size Export = 0
+payload_size Stat = 0
+payload_size Quit = 0
+
+-- a line asks for one thing only
+abbrev pub AsksForOneThing : Type 0
+AsksForOneThing = (line : List ℕ) (one other : Option Request) → Asks line one → Asks line other → one ≡ other

@@ -1,0 +1,12 @@
+use Rattle.std.proofs.Common.{◌≡◌, true, ap, ◌∙◌, subst}
+use Rattle.std.specs.Option.{unwrap_or}
+use Rattle.ad_tree.specs.declared.entities.EntityKind.TheVariants as kinds
+use Rattle.ad_run.specs.Words.{kind_in, front_of, is_iri_behind}
+use Rattle.std.specs.Prelude.{drop, length}
+use Rattle.ad_run.proofs.WordLemmas.{read_entity}
+use Rattle.ad_run.proofs.command.entity_of.Goals as goal
+
+pub returns : goal.returns
+returns c = read_entity c.args.word.now c.unwrap_or-kind.result c.in_ok-name_behind.field-0
+    (c.unwrap_or-kind.ensures ∙ ap (λ o. unwrap_or o kinds.Class) (c.kind_named.ensures ∙ ap kind_in c.as_bytes.ensures.value))
+    (subst (λ front. is_iri_behind front c.args.word.now ≡ true → c.in_ok-name_behind.field-0 ≡ drop (length front) c.args.word.now) c.front.ensures c.in_ok-name_behind.ensures)

@@ -1,0 +1,58 @@
+-- The words of a command.
+use Rattle.std.specs.Prelude.{◌≡◌, ℕ, ◌≤◌, List, [], ◌∷◌, ◌++◌, Option, None, Some, map, codes, decimal, IsTrue}
+use Rattle.std.specs.List.{AllByRecursion, list_all}
+use Rattle.ad_base.specs.declared.limits.Kind.{Kind}
+use Rattle.ad_base.specs.declared.limits.Kind.TheVariants as modules
+use Rattle.ad_base.specs.declared.limits.Side.{Side}
+use Rattle.ad_base.specs.declared.limits.Side.TheVariants as sides
+use Rattle.ad_lex.specs.Characters.{is_iri}
+use Rattle.ad_tree.specs.declared.entities.Entity.{Entity}
+use Rattle.ad_write.specs.Canonical.{kind_word}
+
+-- the word of a kind of module
+abbrev pub module_word : Kind → List ℕ
+module_word modules.Bottom = codes "bottom"
+module_word modules.Top = codes "top"
+module_word modules.Star = codes "star"
+
+-- the module of a side
+abbrev pub kind_of : Side → Kind
+kind_of sides.Bottom = modules.Bottom
+kind_of sides.Top = modules.Top
+
+-- an entity as a word: its keyword, =, and its IRI
+abbrev pub seed_word : Entity → List ℕ
+seed_word e = kind_word e.kind ++ 61 ∷ e.name
+
+-- what the words of a command ask for
+pub data Command : Type 0 where
+  -- the module of this kind for these entities, of the document on the source
+  of_module : (kind : Kind) (seed : List Entity) → Command
+  -- the session whose requests are on the source, over a machine of one session, with this many workers, or one
+  of_script : (workers : Option ℕ) → Command
+
+abbrev pub command_words : Command → List (List ℕ)
+command_words (of_module kind seed) = codes "module" ∷ module_word kind ∷ map seed_word seed
+command_words (of_script None) = codes "script" ∷ []
+command_words (of_script (Some workers)) = codes "script" ∷ codes "--workers" ∷ decimal workers ∷ []
+
+-- the entities that a command may name: those whose IRI has only characters that may stand between < and >
+abbrev pub IsSeedEntity : Entity → Type 0
+IsSeedEntity e = IsTrue (list_all is_iri e.name)
+
+-- the commands that are offered so far: the modules of the two sides, and sessions with 1 to 16 workers
+abbrev pub IsOffered : Command → Type 0
+IsOffered (of_module modules.Bottom seed) = AllByRecursion IsSeedEntity seed
+IsOffered (of_module modules.Top seed) = AllByRecursion IsSeedEntity seed
+IsOffered (of_module modules.Star seed) = ⊥
+IsOffered (of_script None) = Unit {0}
+IsOffered (of_script (Some workers)) = (1 ≤ workers) × (workers ≤ 16)
+
+-- the words are those of this command
+pub record IsCommand (words : List (List ℕ)) (command : Command) : Type 0 where
+  pub offered : IsOffered command
+  pub spelled : words ≡ command_words command
+
+-- the words are those of no command
+abbrev pub IsNoCommand : List (List ℕ) → Type 0
+IsNoCommand words = (command : Command) → IsCommand words command → ⊥

@@ -1,0 +1,9 @@
+pub mod Command
+pub mod Words
+pub mod Statuses
+pub mod Output
+pub mod Ends
+pub mod Answered
+pub mod Runs
+pub mod Scripts
+pub mod Asks

@@ -1,0 +1,31 @@
+-- The exit statuses.
+use Rattle.std.specs.Prelude.{◌≡◌, ℕ}
+use Rattle.ad_session.specs.declared.ends.End.{End}
+use Rattle.ad_session.specs.declared.ends.End.TheVariants as ends
+use Rattle.ad_run.specs.declared.status.Status.{Status}
+use Rattle.ad_run.specs.declared.status.Status.TheVariants.{Done, Usage, Refused, Cut, TooLong, Spent, ReadFault, WriteFault, Memory}
+
+abbrev pub code_of : Status → ℕ
+code_of Done = 0
+code_of Usage = 2
+code_of Refused = 3
+code_of Cut = 3
+code_of TooLong = 3
+code_of Spent = 3
+code_of ReadFault = 4
+code_of WriteFault = 5
+code_of Memory = 6
+
+-- a status that the program ends with
+abbrev pub IsStatus : ℕ → Type 0
+IsStatus code = (status : Status) × (code ≡ code_of status)
+
+-- the status of a session with this end
+abbrev pub status_of : End → Status
+status_of ends.Quit = Done
+status_of ends.Closed = Done
+status_of ends.Cut = Cut
+status_of ends.TooLong = TooLong
+status_of ends.Spent = Spent
+status_of ends.ReadFault = ReadFault
+status_of ends.WriteFault = WriteFault

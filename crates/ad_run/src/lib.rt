@@ -1,0 +1,14 @@
+//! The commands of the program: what the words ask for is read, found and written.
+#![tactic(auto)]
+
+pub use ad_sweep::sweep;
+pub use run::run_once;
+
+mod command;
+mod module;
+mod ontology;
+mod run;
+mod script;
+mod status;
+#[cfg(test)]
+mod tests;

@@ -1,0 +1,110 @@
+ghost use Rattle.std.specs.Prelude.{◌≡◌, ◌≢◌, ◌⊎◌, ◌<◌, ℕ, ◌≤◌, List, Some, IsSome, length};
+ghost use Rattle.ad_io.specs.Flow.{Rose, NotRisen};
+ghost use Rattle.ad_items.specs.Items.{Items, Split, bounds_of};
+ghost use Rattle.ad_session.specs.Flows.{flow};
+ghost use Rattle.ad_tree.specs.declared.axioms.Noted.{Noted};
+ghost use Rattle.ad_run.specs.Command.{IsNoCommand};
+ghost use Rattle.ad_run.specs.Ends.{IsDone, IsRefused, IsUnread, IsCutOff, IsWanting, payload_limit};
+ghost use Rattle.ad_run.specs.Output.{IsOntology, IsNoOntology, standard};
+ghost use Rattle.ad_run.specs.Runs.{EndsSo, RunCause, IsSomeModule, IsSomeScript, code_at};
+ghost use Rattle.ad_run.specs.Statuses.{IsStatus};
+ghost use Rattle.ad_run.specs.Words.{module_side};
+
+use crate::command::{Asked, named_seed, read_words};
+use crate::module::answer_module;
+use crate::script::run_script;
+use crate::status::Status;
+use ad_base::{Side, Word};
+use ad_io::{ReadEnd, Sink, Source, read_to_end};
+use std::alloc::Global;
+
+// How many bytes a document has at most.
+const PAYLOAD: u64 = 33_554_432;
+
+/// Does what the words ask for: reads a document, or the requests of a session, from the source, writes to the sink,
+/// and tells a status other than 0 on the notes in a line. It always returns, with the exit status.
+pub fn run_once<S: Source, K: Sink, N: Sink>(
+    alloc: Global,
+    words: &[Word],
+    source: &mut S,
+    sink: &mut K,
+    notes: &mut N,
+) -> u8
+    ensures known { IsStatus result }
+
+    // 0: the words are a command. For a module the source was read to its end, and the sink has exactly the command's
+    // output; a session was closed by its input, and the sink has exactly its replies.
+    ensures done { result ≡ 0 → IsDone words.now (flow (S.left source.old) (S.faults source.old) (K.written sink.old) (K.faults sink.old)) (flow (S.left source.new) (S.faults source.new) (K.written sink.new) (K.faults sink.new)) }
+
+    // 2: exactly where the words are no command; nothing is read or written.
+    ensures usage { result ≡ 2 → IsNoCommand words.now }
+    ensures no_command { IsNoCommand words.now → result ≡ 2 }
+    ensures untouched { result ≡ 2 → (source.new ≡ source.old) × (sink.new ≡ sink.old) }
+
+    // 3: for a module, the source was read to its end and has no ontology within the limits, or it is too long, and
+    // nothing is written. The input of a session was cut or too long, or had as many requests as one may have, and the
+    // sink has exactly the replies up to there.
+    ensures refused { result ≡ 3 → IsRefused words.now (flow (S.left source.old) (S.faults source.old) (K.written sink.old) (K.faults sink.old)) (flow (S.left source.new) (S.faults source.new) (K.written sink.new) (K.faults sink.new)) }
+
+    // 4 and 5: only where the source's, or the sink's, count of faults rose. At 4 nothing was written for a module, and
+    // for a session the replies to the requests that were read whole; at 5 a front of the output, or of the replies.
+    ensures read_fault { result ≡ 4 → Rose (S.faults source.old) (S.faults source.new) }
+    ensures unread { result ≡ 4 → IsUnread words.now (flow (S.left source.old) (S.faults source.old) (K.written sink.old) (K.faults sink.old)) (flow (S.left source.new) (S.faults source.new) (K.written sink.new) (K.faults sink.new)) }
+    ensures write_fault { result ≡ 5 → Rose (K.faults sink.old) (K.faults sink.new) }
+    ensures cut { result ≡ 5 → IsCutOff words.now (flow (S.left source.old) (S.faults source.old) (K.written sink.old) (K.faults sink.old)) (flow (S.left source.new) (S.faults source.new) (K.written sink.new) (K.faults sink.new)) }
+
+    // 6: memory is wanting; nothing was written.
+    ensures memory { result ≡ 6 → IsWanting words.now (flow (S.left source.old) (S.faults source.old) (K.written sink.old) (K.faults sink.old)) (flow (S.left source.new) (S.faults source.new) (K.written sink.new) (K.faults sink.new)) }
+
+    // Where the source tells its text, the words are those of a module and no count rises, a text of an ontology within
+    // the limits is answered, and any other text is refused, unless memory is wanting.
+    ensures complete { (text : List ℕ) (ontology : List Noted) → IsSomeModule words.now → S.left source.old ≡ Some text → IsSome (S.left source.new) → length text ≤ payload_limit → IsOntology text ontology → NotRisen (S.faults source.old) (S.faults source.new) → NotRisen (K.faults sink.old) (K.faults sink.new) → (result ≡ 0) ⊎ (result ≡ 6) }
+    ensures refuses { (text : List ℕ) → IsSomeModule words.now → S.left source.old ≡ Some text → IsSome (S.left source.new) → IsNoOntology text ⊎ (payload_limit < length text) → NotRisen (S.faults source.old) (S.faults source.new) → NotRisen (K.faults sink.old) (K.faults sink.new) → (result ≡ 3) ⊎ (result ≡ 6) }
+
+    // And where they are those of a session, the status is 0 exactly where the input closes it, and else 3, unless
+    // memory is wanting before its first request.
+    ensures session { (text : List ℕ) (s : Split) → IsSomeScript words.now → S.left source.old ≡ Some text → IsSome (S.left source.new) → Items (bounds_of standard) 0 text s.items s.ending s.taken s.left → NotRisen (S.faults source.old) (S.faults source.new) → NotRisen (K.faults sink.old) (K.faults sink.new) → (result ≡ code_at s.ending) ⊎ (result ≡ 6) }
+{
+    let status = run(alloc, words, source, sink);
+    status.tell(notes);
+    status.code()
+}
+
+// The same up to the notes.
+fn run<S: Source, K: Sink>(alloc: Global, words: &[Word], source: &mut S, sink: &mut K) -> Status
+    ensures ends { EndsSo words.now (flow (S.left source.old) (S.faults source.old) (K.written sink.old) (K.faults sink.old)) (flow (S.left source.new) (S.faults source.new) (K.written sink.new) (K.faults sink.new)) result }
+    ensures untouched { result ≡ Status.Usage → (source.new ≡ source.old) × (sink.new ≡ sink.old) }
+    ensures cause { RunCause (flow (S.left source.old) (S.faults source.old) (K.written sink.old) (K.faults sink.old)) (flow (S.left source.new) (S.faults source.new) (K.written sink.new) (K.faults sink.new)) result }
+{
+    match read_words(words) {
+        Asked::Module(side) => run_module(alloc, side, words, source, sink),
+        Asked::Script(workers) => run_script(alloc, workers, source, sink),
+        Asked::Nothing => Status::Usage,
+    }
+}
+
+// The run of a module.
+fn run_module<S: Source, K: Sink>(
+    alloc: Global,
+    side: Side,
+    words: &[Word],
+    source: &mut S,
+    sink: &mut K,
+) -> Status
+    requires { module_side words.now ≡ Some side }
+    ensures ends { EndsSo words.now (flow (S.left source.old) (S.faults source.old) (K.written sink.old) (K.faults sink.old)) (flow (S.left source.new) (S.faults source.new) (K.written sink.new) (K.faults sink.new)) result }
+    ensures asked { result ≢ Status.Usage }
+    ensures cause { RunCause (flow (S.left source.old) (S.faults source.old) (K.written sink.old) (K.faults sink.old)) (flow (S.left source.new) (S.faults source.new) (K.written sink.new) (K.faults sink.new)) result }
+{
+    let seed = match named_seed(alloc, side, words) {
+        Ok(seed) => seed,
+        Err(_memory) => return Status::Memory,
+    };
+    let text = match read_to_end(alloc, source, PAYLOAD) {
+        Ok(text) => text,
+        Err(ReadEnd::Failed) => return Status::ReadFault,
+        Err(ReadEnd::Long) => return Status::Refused,
+        Err(ReadEnd::Memory) => return Status::Memory,
+    };
+    answer_module(alloc, side, &seed, text.as_slice(), sink)
+}

@@ -1,0 +1,108 @@
+-- What can be answered is answered.
+use Rattle.std.proofs.Common.{◌≡◌, inl, inr, ℕ, ◌+◌, List, [], ◌∷◌, ◌++◌, Option, None, Some, length, sym, ◌∙◌, ap, subst}
+use Rattle.ad_base.specs.declared.limits.Kind.TheVariants as kinds
+use Rattle.ad_base.specs.declared.limits.Side.TheVariants as sides
+use Rattle.ad_request.specs.declared.request.Request.{Request}
+use Rattle.ad_request.specs.declared.request.Request.TheVariants.{Edit, Module, Export}
+use Rattle.ad_tree.specs.declared.edits.Op.{Op}
+use Rattle.ad_tree.specs.declared.entities.Entity.{Entity}
+use Rattle.ad_edition.specs.Apply.{applied, counts_of}
+use Rattle.ad_edition.specs.Log.{replay}
+use Rattle.ad_edition.specs.Limit.{Passed, passed}
+use Rattle.ad_read.specs.FirstForm.{SpellsEdit, SpellsSeed}
+use Rattle.ad_reply.specs.Bodies.{IsBody, IsModuleDocument}
+use Rattle.ad_reply.specs.Replies.{answered, limited, counts_body}
+use Rattle.ad_session.specs.Asked.{IsOfOtherForm, TakesMemory, SpellsBatch}
+use Rattle.ad_session.specs.Machines as machines
+use Rattle.ad_session.specs.Machines.{MachineAnswers, entry_of}
+use Rattle.ad_session.specs.Complete.{LinesAreRefused, ExportIsAnswered, ModuleIsAnswered, EditIsMade, EditIsRefused, OtherFormIsRefused}
+
+same_asked : (asked : Option Request) (r q : Request) → asked ≡ Some r → asked ≡ Some q → r ≡ q
+same_asked asked r q a b = cc
+
+not_both : (asked : Option Request) (r : Request) → asked ≡ None → asked ≡ Some r → ⊥
+not_both asked r a b = cc
+
+none_some : (o : Option Passed) (p : Passed) → o ≡ None → o ≡ Some p → ⊥
+none_some o p a b = cc
+
+some_once : (o : Option Passed) (p q : Passed) → o ≡ Some p → o ≡ Some q → p ≡ q
+some_once o p q a b = cc
+
+pub lines_refused : LinesAreRefused
+lines_refused limits session old new i reply (machines.unasked a is same) none = (is, same)
+lines_refused limits session old new i reply (machines.unread r a other is same) none = absurd (not_both i.asked r none a)
+lines_refused limits session old new i reply (machines.queried r body a is eq same) none = absurd (not_both i.asked r none a)
+lines_refused limits session old new i reply (machines.wanting r a takes is same) none = absurd (not_both i.asked r none a)
+lines_refused limits session old new i reply (machines.accepted r ops a spelled free eq pushed) none = absurd (not_both i.asked r none a)
+lines_refused limits session old new i reply (machines.limited_edit r ops which count a spelled passes eq same) none = absurd (not_both i.asked r none a)
+
+pub export_answered : ExportIsAnswered
+export_answered limits session old new i reply (machines.unasked a is same) asked = absurd (not_both i.asked Export a asked)
+export_answered limits session old new i reply (machines.unread r a other is same) asked = absurd (subst (λ (x : Request). IsOfOtherForm x i.payload) (same_asked i.asked r Export a asked) other)
+export_answered limits session old new i reply (machines.queried r body a is eq same) asked = eq ∙ ap (answered (length old)) (subst (λ (x : Request). IsBody x i.payload (replay old) body) (same_asked i.asked r Export a asked) is)
+export_answered limits session old new i reply (machines.wanting r a takes is same) asked = absurd (subst TakesMemory (same_asked i.asked r Export a asked) takes)
+export_answered limits session old new i reply (machines.accepted r ops a spelled free eq pushed) asked = absurd (subst (λ (x : Request). SpellsBatch x i.payload ops) (same_asked i.asked r Export a asked) spelled)
+export_answered limits session old new i reply (machines.limited_edit r ops which count a spelled passes eq same) asked = absurd (subst (λ (x : Request). SpellsBatch x i.payload ops) (same_asked i.asked r Export a asked) spelled)
+
+-- one text spells at most one seed, and at most one edit
+abbrev pub SeedsOnce : Type 0
+SeedsOnce = (text : List ℕ) (entities others : List Entity) → SpellsSeed text entities → SpellsSeed text others → entities ≡ others
+
+abbrev pub EditsOnce : Type 0
+EditsOnce = (text : List ℕ) (ops others : List Op) → SpellsEdit text ops → SpellsEdit text others → ops ≡ others
+
+pub module_answered : SeedsOnce → ModuleIsAnswered
+module_answered once limits session n old new i reply seed (machines.unasked a is same) asked spells = absurd (not_both i.asked (Module kinds.Bottom n) a asked)
+module_answered once limits session n old new i reply seed (machines.unread r a other is same) asked spells = absurd (subst (λ (x : Request). IsOfOtherForm x i.payload) (same_asked i.asked r (Module kinds.Bottom n) a asked) other seed spells)
+module_answered once limits session n old new i reply seed (machines.queried r body a is eq same) asked spells =
+    let spelled = subst (λ (x : Request). IsBody x i.payload (replay old) body) (same_asked i.asked r (Module kinds.Bottom n) a asked) is in
+    inr (record { body = body; is = subst (λ (s : List Entity). IsModuleDocument sides.Bottom s (replay old) body) (once i.payload spelled.seed seed spelled.spelled spells) spelled.is; answers = eq })
+module_answered once limits session n old new i reply seed (machines.wanting r a takes is same) asked spells = inl is
+module_answered once limits session n old new i reply seed (machines.accepted r ops a spelled free eq pushed) asked spells = absurd (subst (λ (x : Request). SpellsBatch x i.payload ops) (same_asked i.asked r (Module kinds.Bottom n) a asked) spelled)
+module_answered once limits session n old new i reply seed (machines.limited_edit r ops which count a spelled passes eq same) asked spells = absurd (subst (λ (x : Request). SpellsBatch x i.payload ops) (same_asked i.asked r (Module kinds.Bottom n) a asked) spelled)
+
+pub edit_made : EditsOnce → EditIsMade
+edit_made once limits session n old new i reply ops (machines.unasked a is same) asked spells free = absurd (not_both i.asked (Edit n) a asked)
+edit_made once limits session n old new i reply ops (machines.unread r a other is same) asked spells free = absurd (subst (λ (x : Request). IsOfOtherForm x i.payload) (same_asked i.asked r (Edit n) a asked) other ops spells)
+edit_made once limits session n old new i reply ops (machines.queried r body a is eq same) asked spells free = absurd (subst (λ (x : Request). IsBody x i.payload (replay old) body) (same_asked i.asked r (Edit n) a asked) is)
+edit_made once limits session n old new i reply ops (machines.wanting r a takes is same) asked spells free = inl is
+edit_made once limits session n old new i reply ops (machines.accepted r others a spelled free' eq pushed) asked spells free =
+    let e = once i.payload others ops (subst (λ (x : Request). SpellsBatch x i.payload others) (same_asked i.asked r (Edit n) a asked) spelled) spells in
+    inr (eq ∙ ap (λ (o : List Op). answered (length old + 1) (counts_body (counts_of (replay old) o))) e, pushed ∙ ap (λ (o : List Op). old ++ entry_of old session o ∷ []) e)
+edit_made once limits session n old new i reply ops (machines.limited_edit r others which count a spelled passes eq same) asked spells free =
+    let e = once i.payload others ops (subst (λ (x : Request). SpellsBatch x i.payload others) (same_asked i.asked r (Edit n) a asked) spelled) spells in
+    let over = sym (ap (λ (o : List Op). passed limits (length old) (applied (replay old) o)) e) ∙ passes in
+    absurd (none_some (passed limits (length old) (applied (replay old) ops)) _ free over)
+
+pub edit_refused : EditsOnce → EditIsRefused
+edit_refused once limits session n old new i reply ops over (machines.unasked a is same) asked spells passed_it = absurd (not_both i.asked (Edit n) a asked)
+edit_refused once limits session n old new i reply ops over (machines.unread r a other is same) asked spells passed_it = absurd (subst (λ (x : Request). IsOfOtherForm x i.payload) (same_asked i.asked r (Edit n) a asked) other ops spells)
+edit_refused once limits session n old new i reply ops over (machines.queried r body a is eq same) asked spells passed_it = absurd (subst (λ (x : Request). IsBody x i.payload (replay old) body) (same_asked i.asked r (Edit n) a asked) is)
+edit_refused once limits session n old new i reply ops over (machines.wanting r a takes is same) asked spells passed_it = inl is
+edit_refused once limits session n old new i reply ops over (machines.accepted r others a spelled free eq pushed) asked spells passed_it =
+    let e = once i.payload others ops (subst (λ (x : Request). SpellsBatch x i.payload others) (same_asked i.asked r (Edit n) a asked) spelled) spells in
+    let none = sym (ap (λ (o : List Op). passed limits (length old) (applied (replay old) o)) e) ∙ free in
+    absurd (none_some (passed limits (length old) (applied (replay old) ops)) over none passed_it)
+edit_refused once limits session n old new i reply ops over (machines.limited_edit r others which count a spelled passes eq same) asked spells passed_it =
+    let e = once i.payload others ops (subst (λ (x : Request). SpellsBatch x i.payload others) (same_asked i.asked r (Edit n) a asked) spelled) spells in
+    let first = sym (ap (λ (o : List Op). passed limits (length old) (applied (replay old) o)) e) ∙ passes in
+    let one : _ ≡ over = some_once (passed limits (length old) (applied (replay old) ops)) _ over first passed_it in
+    inr (eq ∙ ap (λ (p : Passed). limited (length old) p.which p.count) one, same)
+
+pub other_form_refused : OtherFormIsRefused
+other_form_refused limits session n old new i reply (machines.unasked a is same) which = elim which [ inl h ↦ absurd (not_both i.asked (Edit n) a h.0) | inr h ↦ absurd (not_both i.asked (Module kinds.Bottom n) a h.0) ]
+other_form_refused limits session n old new i reply (machines.unread r a other is same) which = inr (is, same)
+other_form_refused limits session n old new i reply (machines.queried r body a is eq same) which = elim which [
+  | inl h ↦ absurd (subst (λ (x : Request). IsBody x i.payload (replay old) body) (same_asked i.asked r (Edit n) a h.0) is)
+  | inr h ↦ (let spelled = subst (λ (x : Request). IsBody x i.payload (replay old) body) (same_asked i.asked r (Module kinds.Bottom n) a h.0) is in absurd (h.1 spelled.seed spelled.spelled))
+]
+other_form_refused limits session n old new i reply (machines.wanting r a takes is same) which = inl is
+other_form_refused limits session n old new i reply (machines.accepted r ops a spelled free eq pushed) which = elim which [
+  | inl h ↦ absurd (h.1 ops (subst (λ (x : Request). SpellsBatch x i.payload ops) (same_asked i.asked r (Edit n) a h.0) spelled))
+  | inr h ↦ absurd (subst (λ (x : Request). SpellsBatch x i.payload ops) (same_asked i.asked r (Module kinds.Bottom n) a h.0) spelled)
+]
+other_form_refused limits session n old new i reply (machines.limited_edit r ops w count a spelled passes eq same) which = elim which [
+  | inl h ↦ absurd (h.1 ops (subst (λ (x : Request). SpellsBatch x i.payload ops) (same_asked i.asked r (Edit n) a h.0) spelled))
+  | inr h ↦ absurd (subst (λ (x : Request). SpellsBatch x i.payload ops) (same_asked i.asked r (Module kinds.Bottom n) a h.0) spelled)
+]

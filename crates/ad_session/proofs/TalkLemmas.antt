@@ -1,0 +1,208 @@
+-- A talk goes on item by item.
+use Rattle.std.proofs.Common.{◌≡◌, inl, inr, ◌<◌, ◌≤◌, ◌+◌, ℕ, List, [], ◌∷◌, ◌++◌, length, refl, sym, ◌∙◌, ap, subst, arith, length-append}
+use Rattle.std.specs.List.{AllByRecursion, flat_map}
+use Rattle.std.proofs.lemmas.List.{append-nil}
+use Rattle.std.proofs.lemmas.Grind.{flat_map-append}
+use Rattle.ad_io.specs.Flow.{Loses, Gains, GainsFront, Rose}
+use Rattle.ad_io.proofs.FlowLemmas.{gains_nothing, goes_on, stops, loses_nothing, loses_on}
+use Rattle.ad_items.specs.Items.{Bounds, Item, item_bytes, IsItem, AreItems, Ending, quit, closed, cut, too_long, InTime}
+use Rattle.ad_edition.specs.Sight.{Sight}
+use Rattle.ad_tree.specs.declared.edits.Op.{Op}
+use Rattle.ad_reply.specs.Replies.{Reply, reply_bytes}
+use Rattle.ad_session.specs.declared.ends.End.{End}
+use Rattle.ad_session.specs.declared.ends.End.TheVariants as ends
+use Rattle.ad_session.specs.declared.ends.Pause.TheVariants as pauses
+use Rattle.ad_session.specs.Steps.{Steps}
+use Rattle.ad_session.specs.Flows.{Flow}
+use Rattle.ad_session.specs.Says.{Says}
+use Rattle.ad_session.specs.Ends.{items_bytes, replies_bytes, EndsAs}
+use Rattle.ad_session.specs.Talks.{TalkIs}
+use Rattle.ad_session.specs.Turns.{TurnsOnce, TurnsToEdit, TurnsToEnd, EndsTurn}
+
+-- one more step
+pub steps_more : {P I R : Type 0} (step : P → I → R → P → Type 0) (old mid new : P) (items : List I) (replies : List R) (i : I) (reply : R) → Steps step old items replies mid → step mid i reply new → Steps step old (items ++ i ∷ []) (replies ++ reply ∷ []) new
+steps_more step old mid new [] [] i reply run more = (new, subst (λ m. step m i reply new) run more, refl)
+steps_more step old mid new [] (r ∷ replies) i reply run more = absurd run
+steps_more step old mid new (x ∷ items) [] i reply run more = absurd run
+steps_more step old mid new (x ∷ items) (r ∷ replies) i reply run more = (run.0, run.1, steps_more step run.0 mid new items replies i reply run.2 more)
+
+-- two runs one after the other
+pub steps_join : {P I R : Type 0} (step : P → I → R → P → Type 0) (old mid new : P) (items more : List I) (replies others : List R) → Steps step old items replies mid → Steps step mid more others new → Steps step old (items ++ more) (replies ++ others) new
+steps_join step old mid new [] more [] others run then_ = subst (λ m. Steps step m more others new) run then_
+steps_join step old mid new [] more (r ∷ replies) others run then_ = absurd run
+steps_join step old mid new (x ∷ items) more [] others run then_ = absurd run
+steps_join step old mid new (x ∷ items) more (r ∷ replies) others run then_ = (run.0, run.1, steps_join step run.0 mid new items more replies others run.2 then_)
+
+each_more : {X : Type 0} (P : X → Type 0) (xs : List X) (x : X) → AllByRecursion P xs → P x → AllByRecursion P (xs ++ x ∷ [])
+each_more P [] x all one = (one, tt)
+each_more P (y ∷ xs) x all one = (all.0, each_more P xs x all.1 one)
+
+pub bytes_more : {X : Type 0} (bytes : X → List ℕ) (xs : List X) (x : X) → flat_map bytes (xs ++ x ∷ []) ≡ flat_map bytes xs ++ bytes x
+bytes_more bytes xs x = flat_map-append bytes xs (x ∷ []) ∙ ap (λ t. flat_map bytes xs ++ t) (append-nil (bytes x))
+
+-- a talk so far: all replies to the items were written
+pub record TalkedSo (bounds : Bounds) (n answered : ℕ) (a now : Flow) (old sight : Sight) : Type 0 where
+  pub items : List Item
+  pub replies : List Reply
+  pub items_are : AreItems bounds n items
+  pub run : Steps Says old items replies sight
+  pub count : answered ≡ n + length items
+  pub lost : Loses a.left now.left (items_bytes items)
+  pub gained : Gains a.written now.written (replies_bytes replies)
+
+pub talked_none : (bounds : Bounds) (n : ℕ) (a : Flow) (sight : Sight) → TalkedSo bounds n n a a sight sight
+talked_none bounds n a sight = record {
+  items = [];
+  replies = [];
+  items_are = record { each = tt; room = inl refl };
+  run = refl;
+  count = omega arith;
+  lost = loses_nothing a.left;
+  gained = gains_nothing a.written;
+}
+
+pub items_more : (bounds : Bounds) (n : ℕ) (items : List Item) (i : Item) → AreItems bounds n items → IsItem bounds i → n + length items < bounds.requests → AreItems bounds n (items ++ i ∷ [])
+items_more bounds n items i are is more = record {
+  each = each_more (IsItem bounds) items i are.each is;
+  room = inr (omega (arith, length-append items (i ∷ [])));
+}
+
+pub lost_more : (a mid now : Flow) (items : List Item) (i : Item) → Loses a.left mid.left (items_bytes items) → Loses mid.left now.left (item_bytes i) → Loses a.left now.left (items_bytes (items ++ i ∷ []))
+lost_more a mid now items i first more = subst (λ t. Loses a.left now.left t) (sym (bytes_more item_bytes items i)) (loses_on a.left mid.left now.left (items_bytes items) (item_bytes i) first more)
+
+pub gained_more : (a mid now : Flow) (replies : List Reply) (reply : Reply) → Gains a.written mid.written (replies_bytes replies) → Gains mid.written now.written (reply_bytes reply) → Gains a.written now.written (replies_bytes (replies ++ reply ∷ []))
+gained_more a mid now replies reply first more = subst (λ t. Gains a.written now.written t) (sym (bytes_more reply_bytes replies reply)) (goes_on a.written mid.written now.written (replies_bytes replies) (reply_bytes reply) first more)
+
+pub gained_front : (a mid now : Flow) (replies : List Reply) (reply : Reply) → Gains a.written mid.written (replies_bytes replies) → GainsFront mid.written now.written (reply_bytes reply) → GainsFront a.written now.written (replies_bytes (replies ++ reply ∷ []))
+gained_front a mid now replies reply first more = subst (λ t. GainsFront a.written now.written t) (sym (bytes_more reply_bytes replies reply)) (stops a.written mid.written now.written (replies_bytes replies) (reply_bytes reply) first more)
+
+gained_no_more : (a mid now : Flow) (replies : List Reply) → Gains a.written mid.written (replies_bytes replies) → Gains mid.written now.written [] → Gains a.written now.written (replies_bytes replies)
+gained_no_more a mid now replies first none = let e : replies_bytes replies ++ [] ≡ replies_bytes replies = append-nil (replies_bytes replies) in subst (λ t. Gains a.written now.written t) e (goes_on a.written mid.written now.written (replies_bytes replies) [] first none)
+
+-- one more item was answered
+pub talked_more : (bounds : Bounds) (n answered : ℕ) (a mid now : Flow) (old sight new : Sight) → TalkedSo bounds n answered a mid old sight → answered < bounds.requests → TurnsOnce bounds mid now sight new → TalkedSo bounds n (answered + 1) a now old new
+talked_more bounds n answered a mid now old sight new so few turn =
+    let count : answered ≡ n + length so.items = so.count in
+    record {
+      items = so.items ++ turn.item ∷ [];
+      replies = so.replies ++ turn.reply ∷ [];
+      items_are = items_more bounds n so.items turn.item so.items_are turn.is (omega arith);
+      run = steps_more Says old sight new so.items so.replies turn.item turn.reply so.run turn.says;
+      count = omega (arith, length-append so.items (turn.item ∷ []));
+      lost = lost_more a mid now so.items turn.item so.lost turn.lost;
+      gained = gained_more a mid now so.replies turn.reply so.gained turn.gained;
+    }
+
+-- an edit was read
+pub talk_pauses : (bounds : Bounds) (n answered : ℕ) (a mid now : Flow) (old sight new : Sight) (batch : List Op) → TalkedSo bounds n answered a mid old sight → answered < bounds.requests → TurnsToEdit bounds mid now batch → new ≡ sight → TalkIs bounds (pauses.Edit batch) n answered a now old new
+talk_pauses bounds n answered a mid now old sight new batch so few turn seen =
+    let count : answered ≡ n + length so.items = so.count in
+    record {
+      items = so.items;
+      replies = so.replies;
+      items_are = so.items_are;
+      run = subst (λ s. Steps Says old so.items so.replies s) (sym seen) so.run;
+      pauses = (
+        record {
+          item = turn.item;
+          edit = turn.edit;
+          in_time = omega arith;
+          lost = loses_on a.left mid.left now.left (items_bytes so.items) (item_bytes turn.item) so.lost turn.lost;
+          gained = gained_no_more a mid now so.replies so.gained turn.gained;
+        },
+        so.count,
+      );
+    }
+
+-- as many were answered as may be
+pub talk_spent : (bounds : Bounds) (n answered : ℕ) (a now : Flow) (old sight : Sight) → TalkedSo bounds n answered a now old sight → bounds.requests ≤ answered → TalkIs bounds (pauses.Ended ends.Spent) n answered a now old sight
+talk_spent bounds n answered a now old sight so all =
+    let count : answered ≡ n + length so.items = so.count in
+    record {
+      items = so.items;
+      replies = so.replies;
+      items_are = so.items_are;
+      run = so.run;
+      pauses = record {
+        taken = [];
+        closes = refl;
+        in_time = omega arith;
+        lost = let e : items_bytes so.items ++ [] ≡ items_bytes so.items = append-nil (items_bytes so.items) in subst (λ t. Loses a.left now.left t) (sym e) so.lost;
+        gained = so.gained;
+      };
+    }
+
+run_seen : (old sight new : Sight) (items : List Item) (replies : List Reply) → new ≡ sight → Steps Says old items replies sight → Steps Says old items replies new
+run_seen old sight new items replies seen run = subst (λ s. Steps Says old items replies s) (sym seen) run
+
+-- the input ended
+ends_as : (bounds : Bounds) (ending : Ending) (n answered : ℕ) (a mid now : Flow) (old sight new : Sight) (so : TalkedSo bounds n answered a mid old sight) → InTime bounds ending (n + length so.items) → TurnsToEnd bounds ending mid now sight new → EndsAs bounds ending (n + length so.items) a now so.items so.replies
+ends_as bounds ending n answered a mid now old sight new so in_time turn = record {
+  taken = turn.end.taken;
+  closes = turn.end.closes;
+  in_time = in_time;
+  lost = loses_on a.left mid.left now.left (items_bytes so.items) turn.end.taken so.lost turn.end.lost;
+  gained = gained_no_more a mid now so.replies so.gained turn.gained;
+}
+
+in_time_for : (bounds : Bounds) (n answered : ℕ) (a mid : Flow) (old sight : Sight) (so : TalkedSo bounds n answered a mid old sight) → answered < bounds.requests → n + length so.items < bounds.requests
+in_time_for bounds n answered a mid old sight so few = let count : answered ≡ n + length so.items = so.count in omega arith
+
+pub rose_since : (a mid now : ℕ) → a ≤ mid → Rose mid now → Rose a now
+rose_since a mid now later rose = omega arith
+
+pub talk_ends : (bounds : Bounds) (end : End) (n answered counted : ℕ) (a mid now : Flow) (old sight new : Sight) → a.read_faults ≤ mid.read_faults → a.write_faults ≤ mid.write_faults → TalkedSo bounds n answered a mid old sight → answered < bounds.requests → EndsTurn bounds end mid now sight new → TalkIs bounds (pauses.Ended end) n counted a now old new
+talk_ends bounds ends.Quit n answered counted a mid now old sight new reads writes so few turn = record {
+  items = so.items;
+  replies = so.replies;
+  items_are = so.items_are;
+  run = run_seen old sight new so.items so.replies turn.seen so.run;
+  pauses = ends_as bounds quit n answered a mid now old sight new so (in_time_for bounds n answered a mid old sight so few) turn;
+}
+talk_ends bounds ends.Closed n answered counted a mid now old sight new reads writes so few turn = record {
+  items = so.items;
+  replies = so.replies;
+  items_are = so.items_are;
+  run = run_seen old sight new so.items so.replies turn.seen so.run;
+  pauses = ends_as bounds closed n answered a mid now old sight new so (in_time_for bounds n answered a mid old sight so few) turn;
+}
+talk_ends bounds ends.Cut n answered counted a mid now old sight new reads writes so few turn = record {
+  items = so.items;
+  replies = so.replies;
+  items_are = so.items_are;
+  run = run_seen old sight new so.items so.replies turn.seen so.run;
+  pauses = ends_as bounds cut n answered a mid now old sight new so (in_time_for bounds n answered a mid old sight so few) turn;
+}
+talk_ends bounds ends.TooLong n answered counted a mid now old sight new reads writes so few turn = record {
+  items = so.items;
+  replies = so.replies;
+  items_are = so.items_are;
+  run = run_seen old sight new so.items so.replies turn.seen so.run;
+  pauses = ends_as bounds too_long n answered a mid now old sight new so (in_time_for bounds n answered a mid old sight so few) turn;
+}
+talk_ends bounds ends.Spent n answered counted a mid now old sight new reads writes so few turn = absurd turn
+talk_ends bounds ends.ReadFault n answered counted a mid now old sight new reads writes so few turn = record {
+  items = so.items;
+  replies = so.replies;
+  items_are = so.items_are;
+  run = run_seen old sight new so.items so.replies turn.seen so.run;
+  pauses = record {
+    taken = turn.part.taken;
+    part = turn.part.part;
+    in_time = in_time_for bounds n answered a mid old sight so few;
+    lost = loses_on a.left mid.left now.left (items_bytes so.items) turn.part.taken so.lost turn.part.lost;
+    gained = gained_no_more a mid now so.replies so.gained turn.gained;
+    rose = rose_since a.read_faults mid.read_faults now.read_faults reads turn.rose;
+  };
+}
+talk_ends bounds ends.WriteFault n answered counted a mid now old sight new reads writes so few turn = record {
+  items = so.items ++ turn.item ∷ [];
+  replies = so.replies ++ turn.reply ∷ [];
+  items_are = items_more bounds n so.items turn.item so.items_are turn.is (in_time_for bounds n answered a mid old sight so few);
+  run = steps_more Says old sight new so.items so.replies turn.item turn.reply so.run turn.says;
+  pauses = record {
+    lost = lost_more a mid now so.items turn.item so.lost turn.lost;
+    gained = gained_front a mid now so.replies turn.reply so.gained turn.gained;
+    rose = rose_since a.write_faults mid.write_faults now.write_faults writes turn.rose;
+  };
+}

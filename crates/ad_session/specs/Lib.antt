@@ -1,0 +1,12 @@
+pub mod Steps
+pub mod Asked
+pub mod Says
+pub mod Answers
+pub mod Machines
+pub mod Flows
+pub mod Ends
+pub mod Talks
+pub mod Turns
+pub mod Rounds
+pub mod Laws
+pub mod Complete

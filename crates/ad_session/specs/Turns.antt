@@ -1,0 +1,129 @@
+-- What answering one item may come to.
+use Rattle.std.specs.Prelude.{◌≡◌, ◌⊎◌, ℕ, List, [], Option, None, Some, Result, Ok, Err}
+use Rattle.ad_io.specs.Flow.{Loses, Gains, GainsFront, Rose}
+use Rattle.ad_io.specs.Sink.{Puts}
+use Rattle.ad_io.specs.declared.writes.Wrote.{Wrote}
+use Rattle.ad_io.specs.declared.writes.Wrote.TheVariants as wrote
+use Rattle.ad_tree.specs.declared.edits.Op.{Op}
+use Rattle.ad_items.specs.Items.{Bounds, Item, item_bytes, IsItem, Ending, quit, closed, cut, too_long}
+use Rattle.ad_items.specs.Next.{TakesEnd, TakesPart}
+use Rattle.ad_edition.specs.Sight.{Sight}
+use Rattle.ad_edition.specs.declared.receipts.Receipt.{Receipt}
+use Rattle.ad_edition.specs.declared.receipts.Refused.{Refused}
+use Rattle.ad_edition.specs.declared.receipts.Refused.TheVariants as refusals
+use Rattle.ad_reply.specs.Replies.{Reply, reply_bytes, accepted, limited, no_memory}
+use Rattle.ad_base.specs.declared.limits.Side.TheVariants as sides
+use Rattle.ad_edition.specs.Log.{Shown}
+use Rattle.ad_edition.specs.declared.look.NoLook.{NoLook}
+use Rattle.ad_edition.specs.declared.look.NoLook.TheVariants as looks
+use Rattle.ad_reply.specs.declared.refusal.Refusal.{Refusal}
+use Rattle.ad_reply.specs.declared.refusal.Refusal.TheVariants as refused_for
+use Rattle.ad_reply.specs.Written.{PutsModule}
+use Rattle.ad_tree.specs.declared.entities.Entity.{Entity}
+use Rattle.ad_session.specs.declared.ends.End.{End}
+use Rattle.ad_session.specs.declared.ends.End.TheVariants as ends
+use Rattle.ad_session.specs.declared.turn.Turn.{Turn}
+use Rattle.ad_session.specs.declared.turn.Turn.TheVariants as turns
+use Rattle.ad_session.specs.Says.{Says}
+use Rattle.ad_session.specs.Talks.{IsEdit}
+use Rattle.ad_session.specs.Flows.{Flow}
+
+-- a reply to the item was written, or a front of it
+pub record Speaks (old new : Sight) (i : Item) (before after : Option (List ℕ)) (written : Wrote) : Type 0 where
+  pub reply : Reply
+  pub says : Says old i reply new
+  pub puts : Puts before after written (reply_bytes reply)
+
+-- an item was read and answered
+pub record TurnsOnce (bounds : Bounds) (a b : Flow) (old new : Sight) : Type 0 where
+  pub item : Item
+  pub reply : Reply
+  pub is : IsItem bounds item
+  pub says : Says old item reply new
+  pub lost : Loses a.left b.left (item_bytes item)
+  pub gained : Gains a.written b.written (reply_bytes reply)
+
+-- an edit was read
+pub record TurnsToEdit (bounds : Bounds) (a b : Flow) (ops : List Op) : Type 0 where
+  pub item : Item
+  pub edit : IsEdit bounds item ops
+  pub lost : Loses a.left b.left (item_bytes item)
+  pub gained : Gains a.written b.written []
+
+-- an item was read, and a front of its reply written
+pub record TurnsToFault (bounds : Bounds) (a b : Flow) (old new : Sight) : Type 0 where
+  pub item : Item
+  pub reply : Reply
+  pub is : IsItem bounds item
+  pub says : Says old item reply new
+  pub lost : Loses a.left b.left (item_bytes item)
+  pub gained : GainsFront a.written b.written (reply_bytes reply)
+  pub rose : Rose a.write_faults b.write_faults
+
+-- the input ended
+pub record TurnsToEnd (bounds : Bounds) (ending : Ending) (a b : Flow) (old new : Sight) : Type 0 where
+  pub end : TakesEnd bounds ending a.left b.left
+  pub gained : Gains a.written b.written []
+  pub seen : new ≡ old
+
+-- the source failed
+pub record TurnsToCut (bounds : Bounds) (a b : Flow) (old new : Sight) : Type 0 where
+  pub part : TakesPart bounds a.left b.left
+  pub gained : Gains a.written b.written []
+  pub rose : Rose a.read_faults b.read_faults
+  pub seen : new ≡ old
+
+abbrev pub EndsTurn : Bounds → End → Flow → Flow → Sight → Sight → Type 0
+EndsTurn bounds ends.Quit a b old new = TurnsToEnd bounds quit a b old new
+EndsTurn bounds ends.Closed a b old new = TurnsToEnd bounds closed a b old new
+EndsTurn bounds ends.Cut a b old new = TurnsToEnd bounds cut a b old new
+EndsTurn bounds ends.TooLong a b old new = TurnsToEnd bounds too_long a b old new
+EndsTurn bounds ends.Spent a b old new = ⊥
+EndsTurn bounds ends.ReadFault a b old new = TurnsToCut bounds a b old new
+EndsTurn bounds ends.WriteFault a b old new = TurnsToFault bounds a b old new
+
+abbrev pub TurnIs : Bounds → Turn → Flow → Flow → Sight → Sight → Type 0
+TurnIs bounds turns.Said a b old new = TurnsOnce bounds a b old new
+TurnIs bounds (turns.Edit batch) a b old new = TurnsToEdit bounds a b batch × (new ≡ old)
+TurnIs bounds (turns.Ended end) a b old new = EndsTurn bounds end a b old new
+
+-- The same for an item that was read: what was written, and what the session has seen.
+abbrev pub Replies : Bounds → Item → Turn → Option (List ℕ) → Option (List ℕ) → ℕ → ℕ → Sight → Sight → Type 0
+Replies bounds i turns.Said before after faults now old new = Speaks old new i before after wrote.All
+Replies bounds i (turns.Edit batch) before after faults now old new = IsEdit bounds i batch × Gains before after [] × (new ≡ old)
+Replies bounds i (turns.Ended ends.WriteFault) before after faults now old new = Speaks old new i before after wrote.Failed × Rose faults now
+Replies bounds i (turns.Ended ends.Quit) before after faults now old new = ⊥
+Replies bounds i (turns.Ended ends.Closed) before after faults now old new = ⊥
+Replies bounds i (turns.Ended ends.Cut) before after faults now old new = ⊥
+Replies bounds i (turns.Ended ends.TooLong) before after faults now old new = ⊥
+Replies bounds i (turns.Ended ends.Spent) before after faults now old new = ⊥
+Replies bounds i (turns.Ended ends.ReadFault) before after faults now old new = ⊥
+
+-- the reply of an edit that was committed or refused
+abbrev pub outcome_reply : Result Receipt Refused → Reply
+outcome_reply (Ok receipt) = accepted receipt
+outcome_reply (Err (refusals.Limit edition which count)) = limited edition which count
+outcome_reply (Err refusals.Memory) = no_memory
+
+-- what a look that failed is answered with
+abbrev pub refusal_of : NoLook → Refusal
+refusal_of looks.Shut = refused_for.Shut
+refusal_of looks.Memory = refused_for.Memory
+
+-- the reply of the edition's module for the seed was written, or the line for want of memory, or a front of it
+abbrev pub PutsModuleOrRefuses : Shown → List Entity → Option (List ℕ) → Option (List ℕ) → Wrote → Type 0
+PutsModuleOrRefuses edition seed before after written = PutsModule sides.Bottom edition seed before after written ⊎ Puts before after written (reply_bytes no_memory)
+
+-- what a written reply, or a front of it, comes to
+abbrev pub turn_of : Wrote → Turn
+turn_of wrote.All = turns.Said
+turn_of wrote.Failed = turns.Ended ends.WriteFault
+
+-- an answer that ends the session was cut by the sink; the others are counted
+abbrev pub wrote_of : Option End → Wrote
+wrote_of None = wrote.All
+wrote_of (Some end) = wrote.Failed
+
+abbrev pub counted_by : Option End → ℕ
+counted_by None = 1
+counted_by (Some end) = 0

@@ -1,0 +1,22 @@
+ghost use Rattle.ad_session.specs.Laws.{MachinesRunAsSessions};
+ghost use Rattle.ad_session.specs.Complete.{LinesAreRefused, ExportIsAnswered, ModuleIsAnswered, EditIsMade, EditIsRefused, OtherFormIsRefused};
+
+use ad_read::one_first_form;
+
+/// What is proved of every session of a machine: it runs as each session does.
+pub fn session_laws()
+    ensures { MachinesRunAsSessions }
+{}
+
+/// What is proved of every reply of a session of a machine: what can be answered is answered, unless memory is wanting,
+/// and each refusal has its cause.
+pub fn reply_laws()
+    ensures lines { LinesAreRefused }
+    ensures export { ExportIsAnswered }
+    ensures module_ { ModuleIsAnswered }
+    ensures edit { EditIsMade }
+    ensures limits { EditIsRefused }
+    ensures other_form { OtherFormIsRefused }
+{
+    one_first_form();
+}

@@ -1,0 +1,108 @@
+ghost use Rattle.std.specs.Prelude.{◌≡◌, ◌≢◌, ◌<◌, ◌≤◌, ◌^◌, ℕ, length, Some};
+ghost use Rattle.ad_request.specs.declared.request.Request.TheVariants as requests;
+ghost use Rattle.ad_edition.specs.Sight.{Sight};
+ghost use Rattle.ad_request.specs.Requests.{IsOffered};
+ghost use Rattle.ad_items.specs.Items.{Bounds, Item, IsItem, bounds_of};
+ghost use Rattle.ad_session.specs.Flows.{flow};
+ghost use Rattle.ad_session.specs.Turns.{TurnIs, Replies, turn_of};
+
+use crate::ends::End;
+use crate::queries::{answer_export, answer_module};
+use crate::work::Work;
+use ad_base::{Kind, Limits};
+use ad_edition::Look;
+use ad_io::{Sink, Source, Wrote};
+use ad_items::{Next, Payload, read_item};
+use ad_read::{ReadRefused, read_edit};
+use ad_reply::{Refusal, refuse};
+use ad_request::Request;
+use ad_tree::Batch;
+use std::alloc::Global;
+
+// What answering one item came to.
+#[derive(Drop)]
+pub(crate) enum Turn {
+    // The item was answered.
+    Said,
+    // The item is an edit, which isn't answered yet.
+    Edit(Batch),
+    Ended(End),
+}
+
+// Reads one item and answers it, unless it is an edit.
+pub(crate) fn take_turn<S: Source, K: Sink, L: Look>(
+    alloc: Global,
+    source: &mut S,
+    sink: &mut K,
+    look: &mut L,
+    work: &mut Work,
+    limits: Limits,
+) -> Turn
+    requires { limits.payload < 2 ^ 32 }
+    ensures turn { TurnIs (bounds_of limits) result (flow (S.left source.old) (S.faults source.old) (K.written sink.old) (K.faults sink.old)) (flow (S.left source.new) (S.faults source.new) (K.written sink.new) (K.faults sink.new)) (L.sight look.old) (L.sight look.new) }
+    ensures footing { L.footing look.new ≡ L.footing look.old }
+    ensures limits { L.limits look.new ≡ L.limits look.old }
+    ensures reads { S.faults source.old ≤ S.faults source.new }
+    ensures writes { K.faults sink.old ≤ K.faults sink.new }
+{
+    match read_item(alloc, source, &mut work.line, limits) {
+        Next::Item(None, _payload) => turn_of(refuse(Refusal::Request, sink)),
+        Next::Item(Some(_request), Payload::Dropped) => turn_of(refuse(Refusal::Memory, sink)),
+        Next::Item(Some(request), Payload::Full(payload)) => {
+            reply(alloc, request, payload.as_slice(), sink, look)
+        }
+        Next::Quit => Turn::Ended(End::Quit),
+        Next::Closed => Turn::Ended(End::Closed),
+        Next::Cut => Turn::Ended(End::Cut),
+        Next::TooLong => Turn::Ended(End::TooLong),
+        Next::Failed => Turn::Ended(End::ReadFault),
+    }
+}
+
+// Answers a request with its payload, unless it is an edit.
+fn reply<K: Sink, L: Look>(
+    alloc: Global,
+    request: Request,
+    payload: &[u8],
+    sink: &mut K,
+    look: &mut L,
+) -> Turn
+    requires short { length payload.now < 2 ^ 32 }
+    requires offered { IsOffered request }
+    requires goes_on { request ≢ Request.Quit }
+    ensures replies { (bounds : Bounds) (i : Item) → IsItem bounds i → i.asked ≡ Some request → i.payload ≡ payload.now → Replies bounds i result (K.written sink.old) (K.written sink.new) (K.faults sink.old) (K.faults sink.new) (L.sight look.old) (L.sight look.new) }
+    ensures footing { L.footing look.new ≡ L.footing look.old }
+    ensures limits { L.limits look.new ≡ L.limits look.old }
+    ensures writes { K.faults sink.old ≤ K.faults sink.new }
+{
+    match request {
+        Request::Edit(_) => begin_edit(alloc, payload, sink),
+        Request::Module(Kind::Bottom, _) => turn_of(answer_module(alloc, payload, look, sink)),
+        Request::Export => turn_of(answer_export(look, sink)),
+        // What isn't offered yet is read as no request.
+        _ => turn_of(refuse(Refusal::Request, sink)),
+    }
+}
+
+// Reads the edit that the payload spells.
+fn begin_edit<K: Sink>(alloc: Global, payload: &[u8], sink: &mut K) -> Turn
+    requires { length payload.now < 2 ^ 32 }
+    ensures replies { (bounds : Bounds) (i : Item) (n : ℕ) (seen : Sight) → IsItem bounds i → i.asked ≡ Some (requests.Edit n) → i.payload ≡ payload.now → Replies bounds i result (K.written sink.old) (K.written sink.new) (K.faults sink.old) (K.faults sink.new) seen seen }
+    ensures writes { K.faults sink.old ≤ K.faults sink.new }
+{
+    match read_edit(alloc, payload) {
+        Ok(batch) => Turn::Edit(batch),
+        Err(ReadRefused::OtherForm) => turn_of(refuse(Refusal::OtherForm, sink)),
+        Err(ReadRefused::Memory) => turn_of(refuse(Refusal::Memory, sink)),
+    }
+}
+
+// What a written reply, or a front of it, comes to.
+fn turn_of(wrote: Wrote) -> Turn
+    ensures { result ≡ turn_of wrote }
+{
+    match wrote {
+        Wrote::All => Turn::Said,
+        Wrote::Failed => Turn::Ended(End::WriteFault),
+    }
+}

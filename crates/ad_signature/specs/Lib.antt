@@ -1,0 +1,6 @@
+pub mod Firsts
+pub mod Listed
+pub mod Numbering
+pub mod Spare
+pub mod Entered
+pub mod Refused

@@ -1,0 +1,12 @@
+-- When an entity is not entered.
+use Rattle.std.specs.Prelude.{◌≡◌, ℕ, Option, None}
+use Rattle.ad_tree.specs.declared.entities.Entity.{Entity}
+use Rattle.ad_signature.specs.declared.numbers.EntityNumbers.{EntityNumbers}
+use Rattle.ad_signature.specs.declared.refused.SymbolRefused.{SymbolRefused}
+use Rattle.ad_signature.specs.declared.refused.SymbolRefused.TheVariants.{Full, Memory}
+use Rattle.ad_signature.specs.Numbering.{number_in, count}
+
+-- it has no number, and as many entities have numbers as the limit allows; want of memory comes at any time
+abbrev pub IsRefusedFor : ℕ → EntityNumbers → Entity → SymbolRefused → Type 0
+IsRefusedFor limit names entity (Full n) = (number_in names entity ≡ None) × (count names ≡ limit) × (n ≡ limit)
+IsRefusedFor limit names entity Memory = Unit {0}

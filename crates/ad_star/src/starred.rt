@@ -1,0 +1,128 @@
+ghost use Rattle.std.specs.Prelude.{◌≡◌, ◌≤◌, ◌<◌, ℕ, IfOk, IsTrue, length};
+ghost use Rattle.ad_base.specs.declared.limits.Kind.TheVariants.{Star};
+ghost use Rattle.ad_bits.specs.Rows.{has};
+ghost use Rattle.ad_theory.specs.Numbers.{AreSizesOf, IsNumberedModule};
+
+use ad_base::{Kind, Limits, Memory, Side};
+use ad_bits::Row;
+use ad_theory::{Extractor, Half, Tally, Universe, empty_row};
+use std::alloc::Global;
+
+/// Finds the modules of every kind by a half.
+#[derive(Drop)]
+pub struct Starred<H: Half> {
+    half: H,
+    all: Row,
+    found: Row,
+    // every number is a member of `all`
+    ghost whole: { (i : ℕ) → i < length all → IsTrue (has all i) },
+    ghost all_size: { length all ≡ (H.made_for half).axioms },
+    ghost found_size: { length found ≡ (H.made_for half).axioms },
+}
+
+// The row of this size with every number.
+fn full_row(alloc: Global, size: u32) -> Result<Row, Memory>
+    ensures whole { IfOk result (λ row. (i : ℕ) → i < length row → IsTrue (has row i)) }
+    ensures size { IfOk result (λ row. length row ≡ size) }
+{
+    let mut row = empty_row(alloc, size)?;
+    for i in 0..size {
+        row.set(i);
+    }
+    Ok(row)
+}
+
+impl<H: Half> Starred<H> {
+    /// Takes the memory that the half doesn't have yet.
+    pub fn of(alloc: Global, half: H, limits: &Limits) -> Result<Starred<H>, Memory>
+        requires { H.made_for half ≡ limits.now }
+        ensures { IfOk result (λ starred. ⟦<Starred<H> as Extractor>⟧.made_for starred ≡ limits.now) }
+    {
+        Ok(Starred {
+            half,
+            all: full_row(alloc, limits.axioms)?,
+            found: empty_row(alloc, limits.axioms)?,
+        })
+    }
+
+    // Puts the star module into `out`: the bottom module, the top module of it, and so on, until nothing changes.
+    fn alternate<U: Universe>(
+        &mut self,
+        universe: &U,
+        seed: &Row,
+        out: &mut Row,
+        closure: &mut Row,
+        tally: &mut Tally,
+    )
+        requires limits { AreSizesOf (H.made_for self.old.half) (U.slot_count universe.now) (U.symbol_count universe.now) }
+        requires seed { length seed.now ≡ U.symbol_count universe.now }
+        requires out { length out.old ≡ U.slot_count universe.now }
+        requires closure { length closure.old ≡ U.symbol_count universe.now }
+        ensures found { IsNumberedModule Star (U.symbols_of universe.now) (U.is_local universe.now) (has seed.now)
+            (λ i. IsTrue (U.is_live universe.now i)) (has out.new) (has closure.new) }
+        ensures counted { tally.old.tests ≤ tally.new.tests }
+        ensures runs { tally.new.runs ≡ tally.old.runs }
+        ensures out { length out.new ≡ length out.old }
+        ensures closure { length closure.new ≡ length closure.old }
+        ensures limits { H.made_for self.new.half ≡ H.made_for self.old.half }
+    {
+        self.half.module(
+            universe,
+            Side::Bottom,
+            seed,
+            &self.all,
+            &mut self.found,
+            closure,
+            tally,
+        );
+        'rounds: loop {
+            self.half.module(universe, Side::Top, seed, &self.found, out, closure, tally);
+            if out.same(&self.found) {
+                return;
+            }
+            self.half.module(
+                universe,
+                Side::Bottom,
+                seed,
+                out,
+                &mut self.found,
+                closure,
+                tally,
+            );
+            if self.found.same(out) {
+                return;
+            }
+        }
+    }
+}
+
+impl<H: Half> Extractor for Starred<H> {
+    ghost made_for = { λ starred. H.made_for starred.half };
+
+    fn make(alloc: Global, limits: &Limits) -> Result<Starred<H>, Memory> {
+        let half = H::make_half(alloc, limits)?;
+        Starred::of(alloc, half, limits)
+    }
+
+    fn module<U: Universe>(
+        &mut self,
+        universe: &U,
+        kind: Kind,
+        seed: &Row,
+        out: &mut Row,
+        closure: &mut Row,
+        tally: &mut Tally,
+    ) {
+        tally.count_run();
+        match kind {
+            Kind::Bottom => {
+                self.half.module(universe, Side::Bottom, seed, &self.all, out, closure, tally);
+            }
+            Kind::Top => {
+                self.half
+                    .module(universe, Side::Top, seed, &self.all, out, closure, tally);
+            }
+            Kind::Star => self.alternate(universe, seed, out, closure, tally),
+        }
+    }
+}

@@ -1,0 +1,4 @@
+pub mod OntologyModule
+pub mod Marks
+pub mod ModuleDocument
+pub mod Swept

@@ -1,0 +1,9 @@
+pub mod Members
+pub mod ModuleLemmas
+pub mod Existence
+pub mod ListedLemmas
+pub mod SweepLemmas
+pub mod StarLemmas
+pub mod ChangeLemmas
+pub mod KindLemmas
+pub mod NumberLemmas

@@ -1,0 +1,9 @@
+pub mod Module
+pub mod Listed
+pub mod Kinds
+pub mod Sweep
+pub mod Alternation
+pub mod Change
+pub mod Tally
+pub mod Numbers
+pub mod Example

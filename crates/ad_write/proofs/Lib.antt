@@ -1,0 +1,4 @@
+pub mod Equations
+pub mod Escapes
+pub mod Joining
+pub mod Texts

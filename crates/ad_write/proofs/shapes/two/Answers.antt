@@ -1,0 +1,9 @@
+-- Two arguments behind the annotations.
+use Rattle.std.proofs.Common.{[], ◌∷◌, map}
+use Rattle.ad_write.specs.Canonical.{canon_annotation}
+use Rattle.ad_write.proofs.Joining.{four}
+use Rattle.ad_write.proofs.Texts.{closed_two}
+use Rattle.ad_write.proofs.shapes.two.Goals as goal
+
+pub returns : goal.returns
+returns g c = four g.P.Pen.writes g.met.P.Pen.joins c.begin-first.ensures.written c.argument.ensures c.argument-2.ensures c.put.ensures (closed_two c.args.word.now (map canon_annotation c.args.notes.now) (g.A.Spelled.spelling c.args.a.now) (g.B.Spelled.spelling c.args.b.now ∷ []) c.begin-first.result c.begin-first.ensures.first)

@@ -1,0 +1,5 @@
+pub mod Arguments
+pub mod Canonical
+pub mod Keywords
+pub mod Pen
+pub mod PenLaws

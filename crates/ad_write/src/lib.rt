@@ -1,0 +1,24 @@
+//! The canonical text of axioms and documents.
+#![tactic(auto)]
+
+pub use writes::{
+    EMPTY_DOCUMENT, document_length, size, write_document, write_foot, write_head, write_line,
+    write_to,
+};
+
+mod axioms;
+mod classes;
+mod inked;
+#[cfg(test)]
+mod keyword_tests;
+mod literals;
+mod names;
+mod notes;
+mod pen;
+mod ranges;
+mod scale;
+mod shapes;
+mod spelled;
+#[cfg(test)]
+mod tests;
+mod writes;

@@ -1,0 +1,75 @@
+ghost use Rattle.std.specs.Prelude.{◌≡◌};
+ghost use Rattle.ad_write.specs.Canonical.{canon_anonymous, canon_entity, canon_individual, canon_property, canon_subject, kind_word};
+
+use crate::pen::Pen;
+use crate::shapes::one;
+use crate::spelled::Spelled;
+use ad_base::Word;
+use ad_tree::{Entity, EntityKind, Individual, ObjProp, Subject};
+
+/// An object property, or the inverse of a named one.
+impl Spelled for ObjProp {
+    ghost spelling = { canon_property };
+
+    fn write<P: Pen>(&self, pen: &mut P) {
+        match self {
+            ObjProp::Named(name) => name.write(pen),
+            ObjProp::Inverse(name) => one(pen, b"ObjectInverseOf", &[], name),
+        }
+    }
+}
+
+/// An individual, named or anonymous.
+impl Spelled for Individual {
+    ghost spelling = { canon_individual };
+
+    fn write<P: Pen>(&self, pen: &mut P) {
+        match self {
+            Individual::Named(name) => name.write(pen),
+            Individual::Anonymous(label) => write_anonymous(pen, label),
+        }
+    }
+}
+
+/// The subject of an annotation assertion.
+impl Spelled for Subject {
+    ghost spelling = { canon_subject };
+
+    fn write<P: Pen>(&self, pen: &mut P) {
+        match self {
+            Subject::Iri(iri) => iri.write(pen),
+            Subject::Anonymous(label) => write_anonymous(pen, label),
+        }
+    }
+}
+
+/// An entity is its kind and, between parentheses, its IRI.
+impl Spelled for Entity {
+    ghost spelling = { canon_entity };
+
+    fn write<P: Pen>(&self, pen: &mut P) {
+        one(pen, keyword(self.kind), &[], &self.name);
+    }
+}
+
+// An anonymous individual by its label.
+pub fn write_anonymous<P: Pen>(pen: &mut P, label: &Word)
+    ensures { P.writes pen.old pen.new (canon_anonymous label.now) }
+{
+    pen.put(b"_:");
+    pen.put(label.as_bytes());
+}
+
+// The word of a kind of entity.
+fn keyword(kind: EntityKind) -> &'static [u8]
+    ensures { result.now ≡ kind_word kind }
+{
+    match kind {
+        EntityKind::Class => b"Class",
+        EntityKind::Datatype => b"Datatype",
+        EntityKind::ObjectProperty => b"ObjectProperty",
+        EntityKind::DataProperty => b"DataProperty",
+        EntityKind::AnnotationProperty => b"AnnotationProperty",
+        EntityKind::NamedIndividual => b"NamedIndividual",
+    }
+}

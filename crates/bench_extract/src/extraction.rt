@@ -1,0 +1,48 @@
+ghost use Rattle.std.specs.Prelude.{◌≡◌, ◌≤◌, ◌<◌, length};
+
+use crate::tree::Both;
+use ad_base::{Kind, Limits, Memory};
+use ad_bits::Row;
+use ad_extract::Queue;
+use ad_flat::FlatUniverse;
+use ad_star::Starred;
+use ad_theory::{Extractor, Tally, Universe, empty_row};
+use std::alloc::Global;
+
+// Puts these symbols into the row, and no others.
+fn fill(row: &mut Row, symbols: &[u32])
+    ensures { length row.new ≡ length row.old }
+{
+    row.clear();
+    for symbol in symbols {
+        if *symbol < row.size() {
+            row.set(*symbol);
+        }
+    }
+}
+
+// How many axioms the modules of this kind have in all, for the signatures of the first axioms.
+pub(crate) fn sizes(
+    alloc: Global,
+    universe: &FlatUniverse<Both>,
+    kind: Kind,
+    count: u32,
+) -> Result<u64, Memory>
+    requires slots { universe.now.slots.most ≡ 16384 }
+    requires symbols { universe.now.slots.symbols ≡ 65536 }
+    requires count { count ≤ 16384 }
+{
+    let limits = Limits::standard();
+    let mut starred = Starred::of(alloc, Queue::new(alloc, &limits)?, &limits)?;
+    let mut seed = empty_row(alloc, limits.entities)?;
+    let mut out = empty_row(alloc, limits.axioms)?;
+    let mut closure = empty_row(alloc, limits.entities)?;
+    let mut tally = Tally::new();
+    let mut sum = 0u64;
+    for slot in 0..count {
+        fill(&mut seed, universe.signature(slot));
+        starred.module(universe, kind, &seed, &mut out, &mut closure, &mut tally);
+        sum = sum.saturating_add(u64::from(out.count()));
+    }
+    Ok(sum)
+}

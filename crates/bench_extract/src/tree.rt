@@ -1,0 +1,58 @@
+ghost use Rattle.std.specs.Prelude.{◌≡◌, ◌≤◌, ◌/◌, IfOk, IsTrue, length};
+ghost use Rattle.ad_tree.specs.Signature.{is_logical};
+
+use ad_base::{Limits, Memory, Side, Word};
+use ad_bottom::local_bottom;
+use ad_flat::{FlatUniverse, Tables, add};
+use ad_signature::Symbols;
+use ad_top::local_top;
+use ad_tree::{Axiom, Class, Many, Noted, Seen};
+use std::alloc::Global;
+use std::hash::RandomState;
+
+// Locality by the tables of the two sides.
+pub(crate) struct Both;
+
+impl Tables for Both {
+    fn local<S: Seen>(side: Side, axiom: &Axiom, seen: &S) -> bool {
+        match side {
+            Side::Bottom => local_bottom(axiom, seen),
+            Side::Top => local_top(axiom, seen),
+        }
+    }
+}
+
+// The class with this number in its name.
+fn class(alloc: Global, i: u32) -> Result<Class, Memory> {
+    let name = format!(in alloc; "u:C{i}")?;
+    Ok(Class::Named(Word::of(alloc, name.as_str())?))
+}
+
+fn sub_class(alloc: Global, below: u32, above: u32) -> Result<Noted, Memory>
+    ensures { IfOk result (λ noted. IsTrue (is_logical noted.axiom)) }
+{
+    Ok(Noted {
+        notes: Many::new(alloc),
+        axiom: Axiom::SubClassOf(class(alloc, below)?, class(alloc, above)?),
+    })
+}
+
+// So many axioms, each of which puts a class below the one with half its number.
+pub(crate) fn class_tree(
+    alloc: Global,
+    keys: RandomState,
+    count: u32,
+) -> anyhow::Result<FlatUniverse<Both>>
+    requires { count ≤ 16384 }
+    ensures slots { IfOk result (λ universe. universe.slots.most ≡ 16384) }
+    ensures symbols { IfOk result (λ universe. universe.slots.symbols ≡ 65536) }
+{
+    let limits = Limits::standard();
+    let mut symbols = Symbols::new(alloc, keys, limits.entities)?;
+    let mut universe = FlatUniverse::empty(alloc, &limits)?;
+    for i in 0..count {
+        let noted = sub_class(alloc, i + 1, (i + 1) / 2)?;
+        add(alloc, &mut universe, &mut symbols, &noted)?;
+    }
+    Ok(universe)
+}
