@@ -2,5 +2,3 @@ pub mod Declarations
 pub mod Forms
 pub mod Opening
 pub mod Outcomes
-pub mod Phrases
-pub mod Uniqueness

@@ -1,4 +1,4 @@
-pub mod FirstForm
+pub mod Laws
 pub mod Opened
 pub mod Outcome
 pub mod Prefixed

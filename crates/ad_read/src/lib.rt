@@ -1,9 +1,8 @@
-//! The readers of documents, edits and seeds.
+//! The readers of documents, edits, seeds and single axioms.
 #![tactic(auto)]
 
-pub use first_form::{
-    ReadRefused, one_first_form, one_phrasing, read_document, read_edit, read_seed,
-};
+pub use laws::one_outcome;
+pub use texts::{ReadRefused, Unsupported, read_axiom, read_document, read_edit, read_seed};
 
-mod first_form;
-pub mod texts;
+mod laws;
+mod texts;
