@@ -6,9 +6,8 @@ use Rattle.ad_base.specs.declared.limits.Side.TheVariants as sides
 use Rattle.ad_request.specs.declared.request.Request.{Request}
 use Rattle.ad_request.specs.declared.request.Request.TheVariants.{Load, Edit, Module, Genuine, Atoms, Atom, Export, Stat, Quit}
 use Rattle.ad_tree.specs.declared.axioms.Noted.{Noted}
-use Rattle.ad_tree.specs.declared.edits.Op.{Op}
 use Rattle.ad_tree.specs.declared.entities.Entity.{Entity}
-use Rattle.ad_read.specs.FirstForm.{SpellsEdit, SpellsSeed}
+use Rattle.ad_read.specs.Texts.{IsSeed}
 use Rattle.ad_sweep.specs.ModuleDocument.{IsModuleDocumentOf}
 use Rattle.ad_write.specs.Canonical.{canon_document}
 
@@ -18,29 +17,22 @@ pub record IsModuleDocument (side : Side) (seed : List Entity) (ontology : List 
   pub holds : IsModuleDocumentOf side seed ontology axioms
   pub document : body ≡ canon_document axioms
 
--- the same for the seed that a payload spells
-pub record IsSpelledModule (side : Side) (payload : List ℕ) (ontology : List Noted) (body : List ℕ) : Type 0 where
+-- the same for the seed that a payload spells, whose nesting is within the limit
+pub record IsSpelledModule (side : Side) (depth : ℕ) (payload : List ℕ) (ontology : List Noted) (body : List ℕ) : Type 0 where
   pub seed : List Entity
-  pub spelled : SpellsSeed payload seed
+  pub spelled : IsSeed depth payload seed
   pub is : IsModuleDocument side seed ontology body
 
--- the payload spells no seed, or no edit
-abbrev pub IsNoSeed : List ℕ → Type 0
-IsNoSeed payload = (seed : List Entity) → SpellsSeed payload seed → ⊥
-
-abbrev pub IsNoEdit : List ℕ → Type 0
-IsNoEdit payload = (ops : List Op) → SpellsEdit payload ops → ⊥
-
 -- the body that answers a request, with its payload, on an ontology. Of what is not offered yet there is none.
-abbrev pub IsBody : Request → List ℕ → List Noted → List ℕ → Type 0
-IsBody (Load n) payload ontology body = ⊥
-IsBody (Edit n) payload ontology body = ⊥
-IsBody (Module kinds.Bottom n) payload ontology body = IsSpelledModule sides.Bottom payload ontology body
-IsBody (Module kinds.Top n) payload ontology body = IsSpelledModule sides.Top payload ontology body
-IsBody (Module kinds.Star n) payload ontology body = ⊥
-IsBody (Genuine kind n) payload ontology body = ⊥
-IsBody (Atoms kind) payload ontology body = ⊥
-IsBody (Atom kind n) payload ontology body = ⊥
-IsBody Export payload ontology body = body ≡ canon_document ontology
-IsBody Stat payload ontology body = ⊥
-IsBody Quit payload ontology body = ⊥
+abbrev pub IsBody : ℕ → Request → List ℕ → List Noted → List ℕ → Type 0
+IsBody depth (Load n) payload ontology body = ⊥
+IsBody depth (Edit n) payload ontology body = ⊥
+IsBody depth (Module kinds.Bottom n) payload ontology body = IsSpelledModule sides.Bottom depth payload ontology body
+IsBody depth (Module kinds.Top n) payload ontology body = IsSpelledModule sides.Top depth payload ontology body
+IsBody depth (Module kinds.Star n) payload ontology body = ⊥
+IsBody depth (Genuine kind n) payload ontology body = ⊥
+IsBody depth (Atoms kind) payload ontology body = ⊥
+IsBody depth (Atom kind n) payload ontology body = ⊥
+IsBody depth Export payload ontology body = body ≡ canon_document ontology
+IsBody depth Stat payload ontology body = ⊥
+IsBody depth Quit payload ontology body = ⊥

@@ -2,6 +2,12 @@
 use Rattle.std.specs.Prelude.{ℕ, List, [], ◌∷◌, ◌++◌, length, codes, decimal}
 use Rattle.ad_base.specs.declared.limits.Which.{Which}
 use Rattle.ad_base.specs.declared.limits.Which.TheVariants as limits
+use Rattle.ad_check.specs.declared.texts.Unsupported.{Unsupported}
+use Rattle.ad_check.specs.declared.texts.Unsupported.TheVariants as parts
+use Rattle.ad_lex.specs.declared.token.LexFault.{LexFault}
+use Rattle.ad_lex.specs.declared.token.LexFault.TheVariants as faults
+use Rattle.ad_read.specs.declared.texts.ReadRefused.{ReadRefused}
+use Rattle.ad_read.specs.declared.texts.ReadRefused.TheVariants as texts
 use Rattle.ad_edition.specs.Apply.{Counts}
 use Rattle.ad_edition.specs.declared.receipts.Receipt.{Receipt}
 use Rattle.ad_reply.specs.declared.refusal.Refusal.{Refusal}
@@ -12,8 +18,6 @@ pub data Reply : Type 0 where
   answered : (edition : ℕ) (body : List ℕ) → Reply
   -- the line is no request
   no_request : Reply
-  -- the payload isn't of the first form
-  other_form : Reply
   -- the payload has a lexical fault, or a token that may not stand there, at this place
   faulty_text : (at : ℕ) → Reply
   -- the payload's nesting is above the limit
@@ -49,22 +53,34 @@ line_of (word ∷ next ∷ words) = word ++ 32 ∷ line_of (next ∷ words)
 abbrev pub answer_line : ℕ → ℕ → List ℕ
 answer_line edition bytes = line_of (codes "OK" ∷ decimal edition ∷ decimal bytes ∷ [])
 
--- a line that refuses, with this code
-abbrev pub refusal_line : List ℕ → List (List ℕ) → List ℕ
-refusal_line code words = line_of (codes "NO" ∷ code ∷ words)
+-- why something is refused, in words: a code, and what the code says. An answer refuses nothing.
+abbrev pub cause_words : Reply → List (List ℕ)
+cause_words (answered edition body) = []
+cause_words no_request = codes "10" ∷ []
+cause_words (faulty_text at) = codes "20" ∷ decimal at ∷ []
+cause_words (too_deep nesting) = codes "21" ∷ decimal nesting ∷ []
+cause_words (faulty_prefix at) = codes "22" ∷ decimal at ∷ []
+cause_words (unsupported at word) = codes "23" ∷ decimal at ∷ word ∷ []
+cause_words (limited edition which count) = codes "30" ∷ decimal edition ∷ which_word which ∷ decimal count ∷ []
+cause_words (no_atom edition count) = codes "41" ∷ decimal edition ∷ decimal count ∷ []
+cause_words no_memory = codes "90" ∷ []
+cause_words shut = codes "91" ∷ []
+
+-- the line of a refusal
+abbrev pub refusal_line : Reply → List ℕ
+refusal_line reply = line_of (codes "NO" ∷ cause_words reply)
 
 abbrev pub reply_bytes : Reply → List ℕ
 reply_bytes (answered edition body) = answer_line edition (length body) ++ body
-reply_bytes no_request = refusal_line (codes "10") []
-reply_bytes other_form = refusal_line (codes "11") []
-reply_bytes (faulty_text at) = refusal_line (codes "20") (decimal at ∷ [])
-reply_bytes (too_deep nesting) = refusal_line (codes "21") (decimal nesting ∷ [])
-reply_bytes (faulty_prefix at) = refusal_line (codes "22") (decimal at ∷ [])
-reply_bytes (unsupported at word) = refusal_line (codes "23") (decimal at ∷ word ∷ [])
-reply_bytes (limited edition which count) = refusal_line (codes "30") (decimal edition ∷ which_word which ∷ decimal count ∷ [])
-reply_bytes (no_atom edition count) = refusal_line (codes "41") (decimal edition ∷ decimal count ∷ [])
-reply_bytes no_memory = refusal_line (codes "90") []
-reply_bytes shut = refusal_line (codes "91") []
+reply_bytes no_request = refusal_line no_request
+reply_bytes (faulty_text at) = refusal_line (faulty_text at)
+reply_bytes (too_deep nesting) = refusal_line (too_deep nesting)
+reply_bytes (faulty_prefix at) = refusal_line (faulty_prefix at)
+reply_bytes (unsupported at word) = refusal_line (unsupported at word)
+reply_bytes (limited edition which count) = refusal_line (limited edition which count)
+reply_bytes (no_atom edition count) = refusal_line (no_atom edition count)
+reply_bytes no_memory = refusal_line no_memory
+reply_bytes shut = refusal_line shut
 
 -- the body of an accepted edit's reply: what its operations did
 abbrev pub counts_body : Counts → List ℕ
@@ -78,10 +94,33 @@ counts_in receipt = record { added = receipt.added; already = receipt.already; r
 abbrev pub accepted : Receipt → Reply
 accepted receipt = answered receipt.number (counts_body (counts_in receipt))
 
+-- where the fault of a token stands
+abbrev pub fault_place : LexFault → ℕ
+fault_place (faults.Utf8 at) = at
+fault_place (faults.Char at) = at
+fault_place (faults.OpenString at) = at
+fault_place (faults.OpenIri at) = at
+
+-- the word of what is not read
+abbrev pub unsupported_word : Unsupported → List ℕ
+unsupported_word parts.Import = codes "Import"
+unsupported_word parts.Rule = codes "DLSafeRule"
+unsupported_word parts.Nary = codes "n-ary"
+
+-- the reply to a text that is not read
+abbrev pub unread_text : ReadRefused → Reply
+unread_text (texts.Lex fault) = faulty_text (fault_place fault)
+unread_text (texts.Depth nesting) = too_deep nesting
+unread_text (texts.Syntax at) = faulty_text at
+unread_text (texts.Unsupported at what) = unsupported at (unsupported_word what)
+unread_text (texts.Prefix at) = faulty_prefix at
+unread_text (texts.PrefixTwice at) = faulty_prefix at
+unread_text texts.Memory = no_memory
+
 -- the reply of a refusal
 abbrev pub refused : Refusal → Reply
 refused refusals.Request = no_request
-refused refusals.OtherForm = other_form
+refused (refusals.Text cause) = unread_text cause
 refused (refusals.Limit edition which count) = limited edition which count
 refused refusals.Memory = no_memory
 refused refusals.Shut = shut

@@ -2,7 +2,7 @@
 #![tactic(auto)]
 
 pub use answers::{edit_reply, export_reply, module_reply};
-pub use refusal::{Refusal, refuse};
+pub use refusal::{Refusal, explain, refuse};
 
 mod answers;
 mod counts;

@@ -1,18 +1,20 @@
-ghost use Rattle.std.specs.Prelude.{◌≡◌};
+ghost use Rattle.std.specs.Prelude.{◌≡◌, ◌++◌, ◌∷◌, [], decimal};
 ghost use Rattle.ad_io.specs.Sink.{Puts, PutCause};
-ghost use Rattle.ad_reply.specs.Replies.{limited, refused, reply_bytes, which_word};
+ghost use Rattle.ad_reply.specs.Replies.{cause_words, fault_place, limited, line_of, refused, reply_bytes, unread_text, unsupported, unsupported_word, which_word};
 
 use crate::decimal::Decimal;
 use ad_base::Which;
 use ad_io::{Sink, Wrote, put_all, put_each};
+use ad_lex::LexFault;
+use ad_read::{ReadRefused, Unsupported};
 
 /// Why a line, or a line with its payload, isn't answered.
-#[derive(Clone, Copy, Debug, PartialEq, Eq, Hash)]
+#[derive(Clone, Copy, Debug, PartialEq, Eq)]
 pub enum Refusal {
     /// The line is no request.
     Request,
-    /// The payload isn't of the first form.
-    OtherForm,
+    /// The text isn't read.
+    Text(ReadRefused),
     /// On the edition of this number the edit passes this limit, with this count.
     Limit {
         edition: u32,
@@ -30,22 +32,71 @@ pub fn refuse<K: Sink>(refusal: Refusal, sink: &mut K) -> Wrote
     ensures bytes { Puts (K.written sink.old) (K.written sink.new) result (reply_bytes (refused refusal)) }
     ensures cause { PutCause (K.faults sink.old) (K.faults sink.new) result }
 {
+    match put_all(sink, b"NO ") {
+        Wrote::All => explain(refusal, sink),
+        Wrote::Failed => Wrote::Failed,
+    }
+}
+
+/// Writes the line of the refusal without its first word: a code, and what the code says. It takes no memory.
+pub fn explain<K: Sink>(refusal: Refusal, sink: &mut K) -> Wrote
+    ensures bytes { Puts (K.written sink.old) (K.written sink.new) result (line_of (cause_words (refused refusal))) }
+    ensures cause { PutCause (K.faults sink.old) (K.faults sink.new) result }
+{
     match refusal {
-        Refusal::Request => put_all(sink, b"NO 10\n"),
-        Refusal::OtherForm => put_all(sink, b"NO 11\n"),
+        Refusal::Request => put_all(sink, b"10\n"),
+        Refusal::Text(cause) => put_text(cause, sink),
         Refusal::Limit {
             edition,
             which,
             count,
         } => put_limit(edition, which, count, sink),
-        Refusal::Memory => put_all(sink, b"NO 90\n"),
-        Refusal::Shut => put_all(sink, b"NO 91\n"),
+        Refusal::Memory => put_all(sink, b"90\n"),
+        Refusal::Shut => put_all(sink, b"91\n"),
     }
 }
 
-// Writes the line of a passed limit.
+// Writes why a text isn't read.
+fn put_text<K: Sink>(cause: ReadRefused, sink: &mut K) -> Wrote
+    ensures bytes { Puts (K.written sink.old) (K.written sink.new) result (line_of (cause_words (unread_text cause))) }
+    ensures cause { PutCause (K.faults sink.old) (K.faults sink.new) result }
+{
+    match cause {
+        ReadRefused::Lex(fault) => put_number(b"20 ", fault_place(fault), sink),
+        ReadRefused::Depth { nesting } => put_number(b"21 ", nesting, sink),
+        ReadRefused::Syntax { at } => put_number(b"20 ", at, sink),
+        ReadRefused::Unsupported { at, what } => put_unsupported(at, what, sink),
+        ReadRefused::Prefix { at } | ReadRefused::PrefixTwice { at } => {
+            put_number(b"22 ", at, sink)
+        }
+        ReadRefused::Memory => put_all(sink, b"90\n"),
+    }
+}
+
+// Writes a code with a space behind it, a number, and a line feed.
+fn put_number<K: Sink>(code: &[u8], number: u32, sink: &mut K) -> Wrote
+    ensures bytes { Puts (K.written sink.old) (K.written sink.new) result (code.now ++ (decimal number ++ 10 ∷ [])) }
+    ensures cause { PutCause (K.faults sink.old) (K.faults sink.new) result }
+{
+    let number = Decimal::of(u64::from(number));
+    put_each(sink, &[code, number.as_bytes(), b"\n"])
+}
+
+// Writes that what stands at this place isn't read.
+fn put_unsupported<K: Sink>(at: u32, what: Unsupported, sink: &mut K) -> Wrote
+    ensures bytes { Puts (K.written sink.old) (K.written sink.new) result (line_of (cause_words (unsupported at (unsupported_word what)))) }
+    ensures cause { PutCause (K.faults sink.old) (K.faults sink.new) result }
+{
+    let at = Decimal::of(u64::from(at));
+    put_each(
+        sink,
+        &[b"23 ", at.as_bytes(), b" ", unsupported_word(what), b"\n"],
+    )
+}
+
+// Writes the passed limit.
 fn put_limit<K: Sink>(edition: u32, which: Which, count: u64, sink: &mut K) -> Wrote
-    ensures bytes { Puts (K.written sink.old) (K.written sink.new) result (reply_bytes (limited edition which count)) }
+    ensures bytes { Puts (K.written sink.old) (K.written sink.new) result (line_of (cause_words (limited edition which count))) }
     ensures cause { PutCause (K.faults sink.old) (K.faults sink.new) result }
 {
     let edition = Decimal::of(u64::from(edition));
@@ -53,7 +104,7 @@ fn put_limit<K: Sink>(edition: u32, which: Which, count: u64, sink: &mut K) -> W
     put_each(
         sink,
         &[
-            b"NO 30 ",
+            b"30 ",
             edition.as_bytes(),
             b" ",
             word_of(which),
@@ -62,6 +113,29 @@ fn put_limit<K: Sink>(edition: u32, which: Which, count: u64, sink: &mut K) -> W
             b"\n",
         ],
     )
+}
+
+// Where the fault of a token stands.
+fn fault_place(fault: LexFault) -> u32
+    ensures { result ≡ fault_place fault }
+{
+    match fault {
+        LexFault::Utf8 { at }
+        | LexFault::Char { at }
+        | LexFault::OpenString { at }
+        | LexFault::OpenIri { at } => at,
+    }
+}
+
+// The word of what isn't read.
+fn unsupported_word(what: Unsupported) -> &'static [u8]
+    ensures { result.now ≡ unsupported_word what }
+{
+    match what {
+        Unsupported::Import => b"Import",
+        Unsupported::Rule => b"DLSafeRule",
+        Unsupported::Nary => b"n-ary",
+    }
 }
 
 // The word of a limit.

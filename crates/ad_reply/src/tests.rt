@@ -1,7 +1,9 @@
-use crate::{Refusal, edit_reply, export_reply, module_reply, refuse};
+use crate::{Refusal, edit_reply, explain, export_reply, module_reply, refuse};
 use ad_base::{Limits, Side, Which, Word};
 use ad_edition::{Edition, Receipt};
 use ad_io::{SureSink, Wrote};
+use ad_lex::LexFault;
+use ad_read::{ReadRefused, Unsupported};
 use ad_tree::{Axiom, Batch, Class, Entity, EntityKind, Many, Noted, Op, Seed, Sign};
 use std::alloc::Global;
 use std::test::Fail;
@@ -74,7 +76,6 @@ fn edits_and_refusals(rt: HostRuntime) -> Result<(), Fail> {
     };
     let table = [
         (Refusal::Request, "NO 10\n"),
-        (Refusal::OtherForm, "NO 11\n"),
         (limit, "NO 30 7 axioms 16385\n"),
         (Refusal::Memory, "NO 90\n"),
         (Refusal::Shut, "NO 91\n"),
@@ -82,6 +83,31 @@ fn edits_and_refusals(rt: HostRuntime) -> Result<(), Fail> {
     for (refusal, line) in table {
         let mut sink = SureSink::new(alloc, 1024)?;
         assert!(rt; refuse(refusal, &mut sink) == Wrote::All);
+        assert_eq!(rt; sink.bytes(), line.as_bytes());
+    }
+    Ok(())
+}
+
+#[test]
+fn texts(rt: HostRuntime) -> Result<(), Fail> {
+    let alloc = rt.alloc();
+    let table = [
+        (ReadRefused::Lex(LexFault::OpenString { at: 9 }), "20 9\n"),
+        (ReadRefused::Depth { nesting: 129 }, "21 129\n"),
+        (ReadRefused::Syntax { at: 74 }, "20 74\n"),
+        (
+            ReadRefused::Unsupported {
+                at: 57,
+                what: Unsupported::Nary,
+            },
+            "23 57 n-ary\n",
+        ),
+        (ReadRefused::Prefix { at: 20 }, "22 20\n"),
+        (ReadRefused::PrefixTwice { at: 22 }, "22 22\n"),
+    ];
+    for (cause, line) in table {
+        let mut sink = SureSink::new(alloc, 1024)?;
+        assert!(rt; explain(Refusal::Text(cause), &mut sink) == Wrote::All);
         assert_eq!(rt; sink.bytes(), line.as_bytes());
     }
     Ok(())

@@ -25,17 +25,17 @@ pass sight ticket count = record { sight = sight; ticket = ticket; count = count
 
 pub data Answers (limits : Limits) (old : Pass) (i : Item) (reply : Reply) (new : Pass) : Type 0 where
   -- no edit, or one that can't be read
-  said : (sight : Sight) → Says old.sight i reply sight → new ≡ pass sight old.ticket old.count → Answers limits old i reply new
+  said : (sight : Sight) → Says limits.depth old.sight i reply sight → new ≡ pass sight old.ticket old.count → Answers limits old i reply new
   -- an accepted edit: the log that the session is told ends with its entry
-  accepted : (request : Request) (ops : List Op) (log : List Logged) (entry : Logged) → i.asked ≡ Some request → SpellsBatch request i.payload ops
+  accepted : (request : Request) (ops : List Op) (log : List Logged) (entry : Logged) → i.asked ≡ Some request → SpellsBatch limits.depth request i.payload ops
       → entry.ticket ≡ old.ticket → entry.batch ≡ ops → new ≡ pass (tell old.sight (log ++ entry ∷ [])) old.ticket (old.count + 1)
       → passed limits (length log) (applied (replay log) ops) ≡ None → reply ≡ answered (length log + 1) (counts_body (counts_of (replay log) ops)) → Answers limits old i reply new
   -- an edit that passes a limit on the edition of the log that the session is told
-  limited_edit : (request : Request) (ops : List Op) (log : List Logged) (which : Which) (count : ℕ) → i.asked ≡ Some request → SpellsBatch request i.payload ops
+  limited_edit : (request : Request) (ops : List Op) (log : List Logged) (which : Which) (count : ℕ) → i.asked ≡ Some request → SpellsBatch limits.depth request i.payload ops
       → new ≡ pass (tell old.sight log) old.ticket old.count → passed limits (length log) (applied (replay log) ops) ≡ Some (record { which = which; count = count })
       → reply ≡ limited (length log) which count → Answers limits old i reply new
   -- memory is wanting for the edit: the session may be told a log
-  uncommitted : (request : Request) (ops : List Op) → i.asked ≡ Some request → SpellsBatch request i.payload ops
+  uncommitted : (request : Request) (ops : List Op) → i.asked ≡ Some request → SpellsBatch limits.depth request i.payload ops
       → (new ≡ old) ⊎ ((log : List Logged) × (new ≡ pass (tell old.sight log) old.ticket old.count)) → reply ≡ no_memory → Answers limits old i reply new
 
 -- the replies follow the items in order

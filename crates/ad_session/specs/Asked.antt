@@ -2,8 +2,10 @@
 use Rattle.std.specs.Prelude.{ℕ, List}
 use Rattle.ad_request.specs.declared.request.Request.{Request}
 use Rattle.ad_request.specs.declared.request.Request.TheVariants.{Load, Edit, Module, Genuine, Atoms, Atom, Export, Stat, Quit}
-use Rattle.ad_read.specs.FirstForm.{SpellsEdit}
-use Rattle.ad_reply.specs.Bodies.{IsNoEdit, IsNoSeed}
+use Rattle.ad_grammar.specs.Faults.{edit, seed}
+use Rattle.ad_read.specs.Outcome.{Refuses}
+use Rattle.ad_read.specs.Texts.{IsEdit}
+use Rattle.ad_read.specs.declared.texts.ReadRefused.{ReadRefused}
 use Rattle.ad_tree.specs.declared.edits.Op.{Op}
 
 -- the requests that ask for something of the ontology
@@ -30,26 +32,26 @@ TakesMemory Export = ⊥
 TakesMemory Stat = ⊥
 TakesMemory Quit = ⊥
 
--- the request is an edit whose payload spells these operations
-abbrev pub SpellsBatch : Request → List ℕ → List Op → Type 0
-SpellsBatch (Load n) payload ops = ⊥
-SpellsBatch (Edit n) payload ops = SpellsEdit payload ops
-SpellsBatch (Module kind n) payload ops = ⊥
-SpellsBatch (Genuine kind n) payload ops = ⊥
-SpellsBatch (Atoms kind) payload ops = ⊥
-SpellsBatch (Atom kind n) payload ops = ⊥
-SpellsBatch Export payload ops = ⊥
-SpellsBatch Stat payload ops = ⊥
-SpellsBatch Quit payload ops = ⊥
+-- the request is an edit whose payload spells these operations, with a nesting within the limit
+abbrev pub SpellsBatch : ℕ → Request → List ℕ → List Op → Type 0
+SpellsBatch depth (Load n) payload ops = ⊥
+SpellsBatch depth (Edit n) payload ops = IsEdit depth payload ops
+SpellsBatch depth (Module kind n) payload ops = ⊥
+SpellsBatch depth (Genuine kind n) payload ops = ⊥
+SpellsBatch depth (Atoms kind) payload ops = ⊥
+SpellsBatch depth (Atom kind n) payload ops = ⊥
+SpellsBatch depth Export payload ops = ⊥
+SpellsBatch depth Stat payload ops = ⊥
+SpellsBatch depth Quit payload ops = ⊥
 
--- the payload is of another form than the request asks for
-abbrev pub IsOfOtherForm : Request → List ℕ → Type 0
-IsOfOtherForm (Load n) payload = ⊥
-IsOfOtherForm (Edit n) payload = IsNoEdit payload
-IsOfOtherForm (Module kind n) payload = IsNoSeed payload
-IsOfOtherForm (Genuine kind n) payload = ⊥
-IsOfOtherForm (Atoms kind) payload = ⊥
-IsOfOtherForm (Atom kind n) payload = ⊥
-IsOfOtherForm Export payload = ⊥
-IsOfOtherForm Stat payload = ⊥
-IsOfOtherForm Quit payload = ⊥
+-- the payload of the request is refused for this cause
+abbrev pub IsUnread : ℕ → Request → List ℕ → ReadRefused → Type 0
+IsUnread depth (Load n) payload cause = ⊥
+IsUnread depth (Edit n) payload cause = Refuses edit depth payload cause
+IsUnread depth (Module kind n) payload cause = Refuses seed depth payload cause
+IsUnread depth (Genuine kind n) payload cause = ⊥
+IsUnread depth (Atoms kind) payload cause = ⊥
+IsUnread depth (Atom kind n) payload cause = ⊥
+IsUnread depth Export payload cause = ⊥
+IsUnread depth Stat payload cause = ⊥
+IsUnread depth Quit payload cause = ⊥

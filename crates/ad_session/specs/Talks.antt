@@ -15,29 +15,29 @@ use Rattle.ad_session.specs.Flows.{Flow}
 use Rattle.ad_session.specs.Ends.{EndsSo, items_bytes, replies_bytes}
 
 -- an edit that was read: the item, and the operations that its payload spells
-pub record IsEdit (bounds : Bounds) (i : Item) (ops : List Op) : Type 0 where
+pub record IsEdit (bounds : Bounds) (depth : ℕ) (i : Item) (ops : List Op) : Type 0 where
   pub request : Request
   pub is : IsItem bounds i
   pub asked : i.asked ≡ Some request
-  pub spelled : SpellsBatch request i.payload ops
+  pub spelled : SpellsBatch depth request i.payload ops
 
 -- an edit was read behind the items, and no byte more; all replies were written
-pub record PausesAt (bounds : Bounds) (count : ℕ) (a b : Flow) (items : List Item) (replies : List Reply) (ops : List Op) : Type 0 where
+pub record PausesAt (bounds : Bounds) (depth count : ℕ) (a b : Flow) (items : List Item) (replies : List Reply) (ops : List Op) : Type 0 where
   pub item : Item
-  pub edit : IsEdit bounds item ops
+  pub edit : IsEdit bounds depth item ops
   pub in_time : count < bounds.requests
   pub lost : Loses a.left b.left (items_bytes items ++ item_bytes item)
   pub gained : Gains a.written b.written (replies_bytes replies)
 
-abbrev pub PausesSo : Bounds → Pause → ℕ → ℕ → Flow → Flow → List Item → List Reply → Type 0
-PausesSo bounds (pauses.Edit batch) count answered a b items replies = PausesAt bounds count a b items replies batch × (answered ≡ count)
-PausesSo bounds (pauses.Ended end) count answered a b items replies = EndsSo bounds end count a b items replies
+abbrev pub PausesSo : Bounds → ℕ → Pause → ℕ → ℕ → Flow → Flow → List Item → List Reply → Type 0
+PausesSo bounds depth (pauses.Edit batch) count answered a b items replies = PausesAt bounds depth count a b items replies batch × (answered ≡ count)
+PausesSo bounds depth (pauses.Ended end) count answered a b items replies = EndsSo bounds end count a b items replies
 
 -- a talk after n answered items: what was left and written, and what the session has seen, before and after. Where it
 -- pauses for an edit, all items so far were answered.
-pub record TalkIs (bounds : Bounds) (pause : Pause) (n answered : ℕ) (a b : Flow) (old new : Sight) : Type 0 where
+pub record TalkIs (bounds : Bounds) (depth : ℕ) (pause : Pause) (n answered : ℕ) (a b : Flow) (old new : Sight) : Type 0 where
   pub items : List Item
   pub replies : List Reply
   pub items_are : AreItems bounds n items
-  pub run : Steps Says old items replies new
-  pub pauses : PausesSo bounds pause (n + length items) answered a b items replies
+  pub run : Steps (Says depth) old items replies new
+  pub pauses : PausesSo bounds depth pause (n + length items) answered a b items replies

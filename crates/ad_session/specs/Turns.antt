@@ -29,33 +29,33 @@ use Rattle.ad_session.specs.Talks.{IsEdit}
 use Rattle.ad_session.specs.Flows.{Flow}
 
 -- a reply to the item was written, or a front of it
-pub record Speaks (old new : Sight) (i : Item) (before after : Option (List ℕ)) (written : Wrote) : Type 0 where
+pub record Speaks (depth : ℕ) (old new : Sight) (i : Item) (before after : Option (List ℕ)) (written : Wrote) : Type 0 where
   pub reply : Reply
-  pub says : Says old i reply new
+  pub says : Says depth old i reply new
   pub puts : Puts before after written (reply_bytes reply)
 
 -- an item was read and answered
-pub record TurnsOnce (bounds : Bounds) (a b : Flow) (old new : Sight) : Type 0 where
+pub record TurnsOnce (bounds : Bounds) (depth : ℕ) (a b : Flow) (old new : Sight) : Type 0 where
   pub item : Item
   pub reply : Reply
   pub is : IsItem bounds item
-  pub says : Says old item reply new
+  pub says : Says depth old item reply new
   pub lost : Loses a.left b.left (item_bytes item)
   pub gained : Gains a.written b.written (reply_bytes reply)
 
 -- an edit was read
-pub record TurnsToEdit (bounds : Bounds) (a b : Flow) (ops : List Op) : Type 0 where
+pub record TurnsToEdit (bounds : Bounds) (depth : ℕ) (a b : Flow) (ops : List Op) : Type 0 where
   pub item : Item
-  pub edit : IsEdit bounds item ops
+  pub edit : IsEdit bounds depth item ops
   pub lost : Loses a.left b.left (item_bytes item)
   pub gained : Gains a.written b.written []
 
 -- an item was read, and a front of its reply written
-pub record TurnsToFault (bounds : Bounds) (a b : Flow) (old new : Sight) : Type 0 where
+pub record TurnsToFault (bounds : Bounds) (depth : ℕ) (a b : Flow) (old new : Sight) : Type 0 where
   pub item : Item
   pub reply : Reply
   pub is : IsItem bounds item
-  pub says : Says old item reply new
+  pub says : Says depth old item reply new
   pub lost : Loses a.left b.left (item_bytes item)
   pub gained : GainsFront a.written b.written (reply_bytes reply)
   pub rose : Rose a.write_faults b.write_faults
@@ -73,31 +73,31 @@ pub record TurnsToCut (bounds : Bounds) (a b : Flow) (old new : Sight) : Type 0 
   pub rose : Rose a.read_faults b.read_faults
   pub seen : new ≡ old
 
-abbrev pub EndsTurn : Bounds → End → Flow → Flow → Sight → Sight → Type 0
-EndsTurn bounds ends.Quit a b old new = TurnsToEnd bounds quit a b old new
-EndsTurn bounds ends.Closed a b old new = TurnsToEnd bounds closed a b old new
-EndsTurn bounds ends.Cut a b old new = TurnsToEnd bounds cut a b old new
-EndsTurn bounds ends.TooLong a b old new = TurnsToEnd bounds too_long a b old new
-EndsTurn bounds ends.Spent a b old new = ⊥
-EndsTurn bounds ends.ReadFault a b old new = TurnsToCut bounds a b old new
-EndsTurn bounds ends.WriteFault a b old new = TurnsToFault bounds a b old new
+abbrev pub EndsTurn : Bounds → ℕ → End → Flow → Flow → Sight → Sight → Type 0
+EndsTurn bounds depth ends.Quit a b old new = TurnsToEnd bounds quit a b old new
+EndsTurn bounds depth ends.Closed a b old new = TurnsToEnd bounds closed a b old new
+EndsTurn bounds depth ends.Cut a b old new = TurnsToEnd bounds cut a b old new
+EndsTurn bounds depth ends.TooLong a b old new = TurnsToEnd bounds too_long a b old new
+EndsTurn bounds depth ends.Spent a b old new = ⊥
+EndsTurn bounds depth ends.ReadFault a b old new = TurnsToCut bounds a b old new
+EndsTurn bounds depth ends.WriteFault a b old new = TurnsToFault bounds depth a b old new
 
-abbrev pub TurnIs : Bounds → Turn → Flow → Flow → Sight → Sight → Type 0
-TurnIs bounds turns.Said a b old new = TurnsOnce bounds a b old new
-TurnIs bounds (turns.Edit batch) a b old new = TurnsToEdit bounds a b batch × (new ≡ old)
-TurnIs bounds (turns.Ended end) a b old new = EndsTurn bounds end a b old new
+abbrev pub TurnIs : Bounds → ℕ → Turn → Flow → Flow → Sight → Sight → Type 0
+TurnIs bounds depth turns.Said a b old new = TurnsOnce bounds depth a b old new
+TurnIs bounds depth (turns.Edit batch) a b old new = TurnsToEdit bounds depth a b batch × (new ≡ old)
+TurnIs bounds depth (turns.Ended end) a b old new = EndsTurn bounds depth end a b old new
 
 -- The same for an item that was read: what was written, and what the session has seen.
-abbrev pub Replies : Bounds → Item → Turn → Option (List ℕ) → Option (List ℕ) → ℕ → ℕ → Sight → Sight → Type 0
-Replies bounds i turns.Said before after faults now old new = Speaks old new i before after wrote.All
-Replies bounds i (turns.Edit batch) before after faults now old new = IsEdit bounds i batch × Gains before after [] × (new ≡ old)
-Replies bounds i (turns.Ended ends.WriteFault) before after faults now old new = Speaks old new i before after wrote.Failed × Rose faults now
-Replies bounds i (turns.Ended ends.Quit) before after faults now old new = ⊥
-Replies bounds i (turns.Ended ends.Closed) before after faults now old new = ⊥
-Replies bounds i (turns.Ended ends.Cut) before after faults now old new = ⊥
-Replies bounds i (turns.Ended ends.TooLong) before after faults now old new = ⊥
-Replies bounds i (turns.Ended ends.Spent) before after faults now old new = ⊥
-Replies bounds i (turns.Ended ends.ReadFault) before after faults now old new = ⊥
+abbrev pub Replies : Bounds → ℕ → Item → Turn → Option (List ℕ) → Option (List ℕ) → ℕ → ℕ → Sight → Sight → Type 0
+Replies bounds depth i turns.Said before after faults now old new = Speaks depth old new i before after wrote.All
+Replies bounds depth i (turns.Edit batch) before after faults now old new = IsEdit bounds depth i batch × Gains before after [] × (new ≡ old)
+Replies bounds depth i (turns.Ended ends.WriteFault) before after faults now old new = Speaks depth old new i before after wrote.Failed × Rose faults now
+Replies bounds depth i (turns.Ended ends.Quit) before after faults now old new = ⊥
+Replies bounds depth i (turns.Ended ends.Closed) before after faults now old new = ⊥
+Replies bounds depth i (turns.Ended ends.Cut) before after faults now old new = ⊥
+Replies bounds depth i (turns.Ended ends.TooLong) before after faults now old new = ⊥
+Replies bounds depth i (turns.Ended ends.Spent) before after faults now old new = ⊥
+Replies bounds depth i (turns.Ended ends.ReadFault) before after faults now old new = ⊥
 
 -- the reply of an edit that was committed or refused
 abbrev pub outcome_reply : Result Receipt Refused → Reply

@@ -1,7 +1,7 @@
 ghost use Rattle.ad_session.specs.Laws.{MachinesRunAsSessions};
-ghost use Rattle.ad_session.specs.Complete.{LinesAreRefused, ExportIsAnswered, ModuleIsAnswered, EditIsMade, EditIsRefused, OtherFormIsRefused};
+ghost use Rattle.ad_session.specs.Complete.{LinesAreRefused, ExportIsAnswered, ModuleIsAnswered, EditIsMade, EditIsRefused, TextIsRefused};
 
-use ad_read::one_first_form;
+use ad_read::one_outcome;
 
 /// What is proved of every session of a machine: it runs as each session does.
 pub fn session_laws()
@@ -16,7 +16,7 @@ pub fn reply_laws()
     ensures module_ { ModuleIsAnswered }
     ensures edit { EditIsMade }
     ensures limits { EditIsRefused }
-    ensures other_form { OtherFormIsRefused }
+    ensures texts { TextIsRefused }
 {
-    one_first_form();
+    one_outcome();
 }

@@ -24,7 +24,7 @@ pub fn talk<S: Source, K: Sink, L: Look>(
     limits: Limits,
 ) -> Pause
     requires { AreWithinStandard limits }
-    ensures talk { TalkIs (bounds_of limits) result talk.old.answered talk.new.answered (flow (S.left source.old) (S.faults source.old) (K.written sink.old) (K.faults sink.old)) (flow (S.left source.new) (S.faults source.new) (K.written sink.new) (K.faults sink.new)) (L.sight look.old) (L.sight look.new) }
+    ensures talk { TalkIs (bounds_of limits) limits.depth result talk.old.answered talk.new.answered (flow (S.left source.old) (S.faults source.old) (K.written sink.old) (K.faults sink.old)) (flow (S.left source.new) (S.faults source.new) (K.written sink.new) (K.faults sink.new)) (L.sight look.old) (L.sight look.new) }
     ensures chair { talk.new.chair ≡ talk.old.chair }
     ensures footing { L.footing look.new ≡ L.footing look.old }
     ensures limits { L.limits look.new ≡ L.limits look.old }

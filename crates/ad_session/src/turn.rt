@@ -13,7 +13,7 @@ use ad_base::{Kind, Limits};
 use ad_edition::Look;
 use ad_io::{Sink, Source, Wrote};
 use ad_items::{Next, Payload, read_item};
-use ad_read::{ReadRefused, read_edit};
+use ad_read::read_edit;
 use ad_reply::{Refusal, refuse};
 use ad_request::Request;
 use ad_tree::Batch;
@@ -39,7 +39,7 @@ pub(crate) fn take_turn<S: Source, K: Sink, L: Look>(
     limits: Limits,
 ) -> Turn
     requires { limits.payload < 2 ^ 32 }
-    ensures turn { TurnIs (bounds_of limits) result (flow (S.left source.old) (S.faults source.old) (K.written sink.old) (K.faults sink.old)) (flow (S.left source.new) (S.faults source.new) (K.written sink.new) (K.faults sink.new)) (L.sight look.old) (L.sight look.new) }
+    ensures turn { TurnIs (bounds_of limits) limits.depth result (flow (S.left source.old) (S.faults source.old) (K.written sink.old) (K.faults sink.old)) (flow (S.left source.new) (S.faults source.new) (K.written sink.new) (K.faults sink.new)) (L.sight look.old) (L.sight look.new) }
     ensures footing { L.footing look.new ≡ L.footing look.old }
     ensures limits { L.limits look.new ≡ L.limits look.old }
     ensures reads { S.faults source.old ≤ S.faults source.new }
@@ -49,7 +49,7 @@ pub(crate) fn take_turn<S: Source, K: Sink, L: Look>(
         Next::Item(None, _payload) => turn_of(refuse(Refusal::Request, sink)),
         Next::Item(Some(_request), Payload::Dropped) => turn_of(refuse(Refusal::Memory, sink)),
         Next::Item(Some(request), Payload::Full(payload)) => {
-            reply(alloc, request, payload.as_slice(), sink, look)
+            reply(alloc, request, payload.as_slice(), sink, look, &limits)
         }
         Next::Quit => Turn::Ended(End::Quit),
         Next::Closed => Turn::Ended(End::Closed),
@@ -66,18 +66,21 @@ fn reply<K: Sink, L: Look>(
     payload: &[u8],
     sink: &mut K,
     look: &mut L,
+    limits: &Limits,
 ) -> Turn
     requires short { length payload.now < 2 ^ 32 }
     requires offered { IsOffered request }
     requires goes_on { request ≢ Request.Quit }
-    ensures replies { (bounds : Bounds) (i : Item) → IsItem bounds i → i.asked ≡ Some request → i.payload ≡ payload.now → Replies bounds i result (K.written sink.old) (K.written sink.new) (K.faults sink.old) (K.faults sink.new) (L.sight look.old) (L.sight look.new) }
+    ensures replies { (bounds : Bounds) (i : Item) → IsItem bounds i → i.asked ≡ Some request → i.payload ≡ payload.now → Replies bounds limits.now.depth i result (K.written sink.old) (K.written sink.new) (K.faults sink.old) (K.faults sink.new) (L.sight look.old) (L.sight look.new) }
     ensures footing { L.footing look.new ≡ L.footing look.old }
     ensures limits { L.limits look.new ≡ L.limits look.old }
     ensures writes { K.faults sink.old ≤ K.faults sink.new }
 {
     match request {
-        Request::Edit(_) => begin_edit(alloc, payload, sink),
-        Request::Module(Kind::Bottom, _) => turn_of(answer_module(alloc, payload, look, sink)),
+        Request::Edit(_) => begin_edit(alloc, payload, sink, limits),
+        Request::Module(Kind::Bottom, _) => turn_of(answer_module(
+            alloc, payload, look, sink, limits,
+        )),
         Request::Export => turn_of(answer_export(look, sink)),
         // What isn't offered yet is read as no request.
         _ => turn_of(refuse(Refusal::Request, sink)),
@@ -85,15 +88,14 @@ fn reply<K: Sink, L: Look>(
 }
 
 // Reads the edit that the payload spells.
-fn begin_edit<K: Sink>(alloc: Global, payload: &[u8], sink: &mut K) -> Turn
+fn begin_edit<K: Sink>(alloc: Global, payload: &[u8], sink: &mut K, limits: &Limits) -> Turn
     requires { length payload.now < 2 ^ 32 }
-    ensures replies { (bounds : Bounds) (i : Item) (n : ℕ) (seen : Sight) → IsItem bounds i → i.asked ≡ Some (requests.Edit n) → i.payload ≡ payload.now → Replies bounds i result (K.written sink.old) (K.written sink.new) (K.faults sink.old) (K.faults sink.new) seen seen }
+    ensures replies { (bounds : Bounds) (i : Item) (n : ℕ) (seen : Sight) → IsItem bounds i → i.asked ≡ Some (requests.Edit n) → i.payload ≡ payload.now → Replies bounds limits.now.depth i result (K.written sink.old) (K.written sink.new) (K.faults sink.old) (K.faults sink.new) seen seen }
     ensures writes { K.faults sink.old ≤ K.faults sink.new }
 {
-    match read_edit(alloc, payload) {
+    match read_edit(alloc, payload, limits) {
         Ok(batch) => Turn::Edit(batch),
-        Err(ReadRefused::OtherForm) => turn_of(refuse(Refusal::OtherForm, sink)),
-        Err(ReadRefused::Memory) => turn_of(refuse(Refusal::Memory, sink)),
+        Err(cause) => turn_of(refuse(Refusal::Text(cause), sink)),
     }
 }
 
