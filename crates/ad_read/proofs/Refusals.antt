@@ -1,10 +1,9 @@
 -- A text is refused for one cause at most.
 use Rattle.std.proofs.Common.{◌≡◌, ◌≢◌, ℕ, suc, ◌+◌, ◌*◌, ◌<◌, ◌≤◌, ◌⊎◌, inl, inr, List, [], ◌∷◌, ◌++◌, length, drop, Option, None, Some, refl, sym, ◌∙◌, ap, subst, arith}
 use Rattle.std.specs.Prelude.{codes}
-use Rattle.std.specs.Option.{is_some}
 use Rattle.std.specs.Str.{bytes_eq}
 use Rattle.std.proofs.lemmas.Bool.{true≢false}
-use Rattle.ad_lex.specs.Lexed.{IsLexed, IsFault}
+use Rattle.ad_lex.specs.Lexed.{IsLexed}
 use Rattle.ad_lex.specs.Lexemes.{Lexeme, lexemes}
 use Rattle.ad_lex.specs.Lexemes as says
 use Rattle.ad_lex.specs.declared.token.Token.{Token}
@@ -13,9 +12,8 @@ use Rattle.ad_lex.proofs.Once.{lexed_once, lexed_or_fault, fault_once}
 use Rattle.ad_lex.proofs.Pieces.{bytes_eq-refl}
 use Rattle.ad_grammar.specs.Shapes.{Text}
 use Rattle.ad_grammar.specs.Texts.{Declared, AreDistinct, iri_of, in_force}
-use Rattle.ad_grammar.specs.Faults.{Form, IsOf, IsFirstFault}
+use Rattle.ad_grammar.specs.Faults.{Form, IsFirstFault}
 use Rattle.ad_grammar_laws.specs.Known.{IsKnown, AreKnown}
-use Rattle.ad_grammar_laws.proofs.Words.{known_second}
 use Rattle.ad_check.specs.Stops.{IsAddition, IsAdditionAt, Says}
 use Rattle.ad_check.specs.declared.texts.Unsupported.{Unsupported}
 use Rattle.ad_check.specs.declared.texts.Unsupported.TheVariants.{Import, Rule, Nary}
@@ -25,13 +23,10 @@ use Rattle.ad_read.specs.Texts.{depth, IsShallow, IsFormed, place}
 use Rattle.ad_read.specs.Outcome.{StopsAt, Refuses}
 use Rattle.ad_read.specs.Opened.{text_of}
 use Rattle.ad_read.specs.Laws.{IsRefusedOnce}
-use Rattle.ad_read.specs.declared.texts.ReadRefused.{ReadRefused}
 use Rattle.ad_read.specs.declared.texts.ReadRefused.TheVariants as refused_by
-use Rattle.ad_read.proofs.Declarations.{text_is, split_once, within, not_distinct, length_text}
+use Rattle.ad_read.proofs.Declarations.{text_is, prefix_in, iri_in, declared_as, split_once, within, not_distinct, length_text}
+use Rattle.ad_read.proofs.Opening.{none_not_some, some_same}
 use Rattle.ad_read.proofs.Outcomes.{fault_not_of}
-
-none_not_some : {X : Type 0} (x : X) → None ≡ Some x → ⊥
-none_not_some x h = absurd (true≢false (sym (ap is_some h)))
 
 -- an addition of the wide grammar is told by its token
 abbrev word_in : Lexeme → List ℕ
@@ -96,17 +91,6 @@ Among ds es prefix = (own : Declared) × (after : List Declared) × (es ≡ ds +
 
 abbrev begins_with : List ℕ → Text → Text
 begins_with prefix rest = says.Plain (codes "Prefix") ∷ says.Left ∷ says.Short prefix [] ∷ rest
-
-abbrev prefix_in : Text → List ℕ
-prefix_in (a ∷ b ∷ says.Short prefix local ∷ ts) = prefix
-prefix_in ts = []
-
-abbrev iri_in : Text → List ℕ
-iri_in (a ∷ b ∷ c ∷ d ∷ says.Iri iri ∷ ts) = iri
-iri_in ts = []
-
-abbrev declared_as : List ℕ → List ℕ → Declared
-declared_as prefix iri = record { prefix = prefix; iri = iri }
 
 same_declared : (d e : Declared) → d.prefix ≡ e.prefix → d.iri ≡ e.iri → d ≡ e
 same_declared d e p i = ap (λ q. declared_as q d.iri) p ∙ ap (λ q. declared_as e.prefix q) i
@@ -190,13 +174,6 @@ module _ (form : Form) (limit : ℕ) (text : List ℕ) where
   prefix_or_twice at other (tokens, formed, token, u, e) (tokens', formed', token', t, e') =
       let same : tokens' ≡ tokens = lexed_once text tokens' tokens formed'.shallow.lexed formed.shallow.lexed in
       unknown_or_twice (lexemes text tokens) token token' u (subst (λ ts. IsDeclaredTwice (lexemes text ts) token') same t)
-
-some_same : (x y : Unsupported) → Some x ≡ Some y → x ≡ y
-some_same x y e = ap from e
-  where
-    from : Option Unsupported → Unsupported
-    from None = x
-    from (Some z) = z
 
 pub refused_once : IsRefusedOnce
 refused_once form limit text (refused_by.Lex f) (refused_by.Lex g) x y h h' = ap refused_by.Lex (fault_once text f g h h')
