@@ -1,7 +1,7 @@
 //! Modules of small ontologies.
 ghost use Rattle.std.specs.Prelude.{◌≤◌, IfOk, IsTrue, length};
 
-use crate::numbered::{MOST, numbered};
+use crate::numbered::{MOST, with_numbers};
 use ad_base::{Kind, Limits, Memory, Side};
 use ad_bits::Row;
 use ad_read::{read_document, read_seed};
@@ -77,7 +77,7 @@ fn logical(alloc: Global, text: &str) -> Result<Batch, Fail>
     let mut axioms = Batch::new(alloc);
     for op in document.ops() {
         if op.noted.is_logical() {
-            if axioms.ops().len() as u32 >= MOST {
+            if axioms.ops().len() >= MOST as usize {
                 Err("many axioms")?;
             }
             axioms.push(op.copy(alloc)?)?;
@@ -164,7 +164,7 @@ fn numbered_module(
 ) -> Result<String, Fail>
     requires { length axioms.now ≤ MOST }
 {
-    let numbered = numbered(alloc, keys, axioms)?;
+    let numbered = with_numbers(alloc, keys, axioms)?;
     let row = match kind {
         Kind::Bottom => numbered.by_queue(alloc, Side::Bottom, seed)?.0,
         Kind::Top => numbered.by_queue(alloc, Side::Top, seed)?.0,
@@ -236,7 +236,7 @@ fn signatures(rt: HostRuntime) -> Result<(), Fail> {
 fn tests_of(alloc: Global, keys: RandomState, side: Side, text: &str) -> Result<u64, Fail> {
     let axioms = logical(alloc, text)?;
     let seed = seed_of(alloc, ONE)?;
-    let numbered = numbered(alloc, keys, axioms.ops())?;
+    let numbered = with_numbers(alloc, keys, axioms.ops())?;
     Ok(numbered.by_queue(alloc, side, &seed)?.1)
 }
 

@@ -52,7 +52,11 @@ pub(crate) struct Numbered {
 }
 
 /// The axioms of additions, each with its place in the list as its number.
-pub(crate) fn numbered(alloc: Global, keys: RandomState, axioms: &[Op]) -> Result<Numbered, Fail>
+pub(crate) fn with_numbers(
+    alloc: Global,
+    keys: RandomState,
+    axioms: &[Op],
+) -> Result<Numbered, Fail>
     requires { length axioms.now ≤ MOST }
 {
     let mut symbols = Symbols::new(alloc, keys, MOST)?;
