@@ -1,7 +1,7 @@
 //! Modules of small ontologies.
-ghost use Rattle.std.specs.Prelude.{◌≤◌, IfOk, IsTrue, length};
+ghost use Rattle.std.specs.Prelude.{◌≤◌, ◌<◌, IfOk, IsTrue, OnOk, length};
 
-use crate::numbered::{MOST, numbered};
+use crate::numbered::{MOST, with_numbers};
 use ad_base::{Kind, Limits, Memory, Side};
 use ad_bits::Row;
 use ad_read::{read_document, read_seed};
@@ -66,21 +66,34 @@ static MODULES: [(&str, &str, &str, &str, &str); 11] = [
     ("Ontology(DisjointClasses(<u:A> <u:C>) SubClassOf(<u:A> <u:B>) SubClassOf(<u:B> <u:C>))", "Class(<u:A>) Class(<u:C>)", "111", "111", "111"),
 ];
 
-/// The logical axioms of a document.
-fn logical(alloc: Global, text: &str) -> Result<Batch, Fail>
-    ensures { IfOk result (λ axioms. length axioms ≤ MOST) }
-{
+fn document(alloc: Global, text: &str) -> Result<Batch, Fail> {
     if text.len() >= 10_000 {
         Err("a long text")?;
     }
-    let document = read_document(alloc, text.as_bytes(), &Limits::standard())?;
+    Ok(read_document(alloc, text.as_bytes(), &Limits::standard())?)
+}
+
+/// Puts a copy of an operation at the end.
+fn put(alloc: Global, axioms: &mut Batch, op: &Op) -> Result<(), Fail>
+    requires { length axioms.old < MOST }
+    ensures { OnOk result (length axioms.new ≤ MOST) }
+{
+    axioms.push(op.copy(alloc)?)?;
+    Ok(())
+}
+
+/// The logical axioms of a document, which are no more than there may be.
+fn logical(alloc: Global, text: &str) -> Result<Batch, Fail>
+    ensures { IfOk result (λ axioms. length axioms ≤ MOST) }
+{
+    let document = document(alloc, text)?;
     let mut axioms = Batch::new(alloc);
     for op in document.ops() {
         if op.noted.is_logical() {
-            if axioms.ops().len() as u32 >= MOST {
+            if axioms.ops().len() >= MOST as usize {
                 Err("many axioms")?;
             }
-            axioms.push(op.copy(alloc)?)?;
+            put(alloc, &mut axioms, op)?;
         }
     }
     Ok(axioms)
@@ -154,8 +167,14 @@ fn marks_of_slots(alloc: Global, count: u32, row: &Row) -> Result<String, AllocE
     Ok(marks)
 }
 
-/// The module of a kind over the numbered axioms: by the queue on one side, by alternation on both.
-fn numbered_module(
+/// The module by plain sweeps, in marks.
+fn swept_marks(alloc: Global, kind: Kind, axioms: &Batch, seed: &Seed) -> Result<String, Fail> {
+    let found = swept(alloc, kind, axioms, seed)?;
+    Ok(marks_of_axioms(alloc, axioms.ops(), found.ops())?)
+}
+
+/// The module over the numbered axioms, in marks.
+fn numbered_marks(
     alloc: Global,
     keys: RandomState,
     kind: Kind,
@@ -164,16 +183,12 @@ fn numbered_module(
 ) -> Result<String, Fail>
     requires { length axioms.now ≤ MOST }
 {
-    let numbered = numbered(alloc, keys, axioms)?;
-    let row = match kind {
-        Kind::Bottom => numbered.by_queue(alloc, Side::Bottom, seed)?.0,
-        Kind::Top => numbered.by_queue(alloc, Side::Top, seed)?.0,
-        Kind::Star => numbered.by_alternation(alloc, seed)?,
-    };
+    let numbered = with_numbers(alloc, keys, axioms)?;
+    let row = numbered.module(alloc, kind, seed)?;
     Ok(marks_of_slots(alloc, axioms.len() as u32, &row)?)
 }
 
-/// The module of a document for a seed, by sweeps and over the numbered axioms.
+/// The module of axioms for a seed, in marks: by sweeps and over the numbered axioms.
 fn both(
     alloc: Global,
     keys: RandomState,
@@ -183,24 +198,32 @@ fn both(
 ) -> Result<(String, String), Fail>
     requires { length axioms.now ≤ MOST }
 {
-    let found = swept(alloc, kind, axioms, seed)?;
-    let marks = marks_of_axioms(alloc, axioms.ops(), found.ops())?;
-    Ok((
-        marks,
-        numbered_module(alloc, keys, kind, axioms.ops(), seed)?,
-    ))
+    let by_sweeps = swept_marks(alloc, kind, axioms, seed)?;
+    let by_numbers = numbered_marks(alloc, keys, kind, axioms.ops(), seed)?;
+    Ok((by_sweeps, by_numbers))
+}
+
+/// The same of a document and the text of a seed.
+fn both_of_texts(
+    alloc: Global,
+    keys: RandomState,
+    kind: Kind,
+    text: &str,
+    seed: &str,
+) -> Result<(String, String), Fail> {
+    let axioms = logical(alloc, text)?;
+    let seed = seed_of(alloc, seed)?;
+    both(alloc, keys, kind, &axioms, &seed)
 }
 
 #[test]
 fn modules(rt: HostRuntime) -> Result<(), Fail> {
     let keys = RandomState::new(&rt)?;
     for (text, seed, bottom, top, star) in MODULES.iter().copied() {
-        let axioms = logical(rt.alloc(), text)?;
-        let seed = seed_of(rt.alloc(), seed)?;
         for (kind, marks) in [(Kind::Bottom, bottom), (Kind::Top, top), (Kind::Star, star)] {
-            let (swept, found) = both(rt.alloc(), keys, kind, &axioms, &seed)?;
-            assert_eq!(rt; swept.as_str(), marks, "{text}");
-            assert_eq!(rt; found.as_str(), marks, "{text}");
+            let (by_sweeps, by_numbers) = both_of_texts(rt.alloc(), keys, kind, text, seed)?;
+            assert_eq!(rt; by_sweeps.as_str(), marks, "{text}");
+            assert_eq!(rt; by_numbers.as_str(), marks, "{text}");
         }
     }
     Ok(())
@@ -213,8 +236,8 @@ fn agree(alloc: Global, keys: RandomState, axioms: &Batch) -> Result<bool, Fail>
     for op in axioms.ops() {
         let seed = signature(alloc, &op.noted)?;
         for kind in [Kind::Bottom, Kind::Top, Kind::Star] {
-            let (swept, found) = both(alloc, keys, kind, axioms, &seed)?;
-            if swept.as_str() != found.as_str() {
+            let (by_sweeps, by_numbers) = both(alloc, keys, kind, axioms, &seed)?;
+            if by_sweeps.as_str() != by_numbers.as_str() {
                 return Ok(false);
             }
         }
@@ -222,22 +245,33 @@ fn agree(alloc: Global, keys: RandomState, axioms: &Batch) -> Result<bool, Fail>
     Ok(true)
 }
 
+fn agree_on_text(alloc: Global, keys: RandomState, text: &str) -> Result<bool, Fail> {
+    let axioms = logical(alloc, text)?;
+    agree(alloc, keys, &axioms)
+}
+
 #[test]
 fn signatures(rt: HostRuntime) -> Result<(), Fail> {
     let keys = RandomState::new(&rt)?;
     for (text, _, _, _, _) in MODULES.iter().copied() {
-        let axioms = logical(rt.alloc(), text)?;
-        assert!(rt; agree(rt.alloc(), keys, &axioms)?, "{text}");
+        assert!(rt; agree_on_text(rt.alloc(), keys, text)?, "{text}");
     }
     Ok(())
 }
 
 /// How many tests of locality the module of a side for the seed u:A takes.
-fn tests_of(alloc: Global, keys: RandomState, side: Side, text: &str) -> Result<u64, Fail> {
-    let axioms = logical(alloc, text)?;
+fn tests_of(alloc: Global, keys: RandomState, side: Side, axioms: &[Op]) -> Result<u64, Fail>
+    requires { length axioms.now ≤ MOST }
+{
     let seed = seed_of(alloc, ONE)?;
-    let numbered = numbered(alloc, keys, axioms.ops())?;
+    let numbered = with_numbers(alloc, keys, axioms)?;
     Ok(numbered.by_queue(alloc, side, &seed)?.1)
+}
+
+/// The same of a document.
+fn tests_of_text(alloc: Global, keys: RandomState, side: Side, text: &str) -> Result<u64, Fail> {
+    let axioms = logical(alloc, text)?;
+    tests_of(alloc, keys, side, axioms.ops())
 }
 
 // An axiom between two names outside the module is never looked at.
@@ -248,12 +282,12 @@ fn tests(rt: HostRuntime) -> Result<(), Fail> {
     let with = "Ontology(SubClassOf(<u:A> <u:B>) SubClassOf(<u:C> <u:D>) SubClassOf(<u:E> <u:A>))";
     for side in [Side::Bottom, Side::Top] {
         assert_eq!(rt;
-            tests_of(rt.alloc(), keys, side, "Ontology(SubClassOf(<u:C> <u:D>))")?,
+            tests_of_text(rt.alloc(), keys, side, "Ontology(SubClassOf(<u:C> <u:D>))")?,
             0
         );
-        let tests = tests_of(rt.alloc(), keys, side, without)?;
+        let tests = tests_of_text(rt.alloc(), keys, side, without)?;
         assert!(rt; tests > 0);
-        assert_eq!(rt; tests_of(rt.alloc(), keys, side, with)?, tests);
+        assert_eq!(rt; tests_of_text(rt.alloc(), keys, side, with)?, tests);
     }
     Ok(())
 }

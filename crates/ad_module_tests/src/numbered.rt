@@ -52,7 +52,11 @@ pub(crate) struct Numbered {
 }
 
 /// The axioms of additions, each with its place in the list as its number.
-pub(crate) fn numbered(alloc: Global, keys: RandomState, axioms: &[Op]) -> Result<Numbered, Fail>
+pub(crate) fn with_numbers(
+    alloc: Global,
+    keys: RandomState,
+    axioms: &[Op],
+) -> Result<Numbered, Fail>
     requires { length axioms.now ≤ MOST }
 {
     let mut symbols = Symbols::new(alloc, keys, MOST)?;
@@ -120,8 +124,19 @@ impl Numbered {
         Ok((out, tally.tests()))
     }
 
+    /// The slots of the module of a kind: by the queue on one side, and by alternation on both.
+    pub(crate) fn module(&self, alloc: Global, kind: Kind, seed: &Seed) -> Result<Row, Memory>
+        ensures { IfOk result (λ found. length found ≡ MOST) }
+    {
+        match kind {
+            Kind::Bottom => Ok(self.by_queue(alloc, Side::Bottom, seed)?.0),
+            Kind::Top => Ok(self.by_queue(alloc, Side::Top, seed)?.0),
+            Kind::Star => self.by_alternation(alloc, seed),
+        }
+    }
+
     /// The slots of the star module, by alternation of the queue.
-    pub(crate) fn by_alternation(&self, alloc: Global, seed: &Seed) -> Result<Row, Memory>
+    fn by_alternation(&self, alloc: Global, seed: &Seed) -> Result<Row, Memory>
         ensures { IfOk result (λ found. length found ≡ MOST) }
     {
         let limits = limits();

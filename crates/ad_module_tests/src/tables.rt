@@ -1,5 +1,5 @@
 //! What the two tables of locality say of an axiom or an expression that is read from a text.
-ghost use Rattle.std.specs.Prelude.{IsTrue, IfSome};
+ghost use Rattle.std.specs.Prelude.{IsTrue, IfOk, IfSome};
 ghost use Rattle.ad_tree.specs.Signature.{is_logical};
 
 use ad_base::{Limits, Side};
@@ -101,13 +101,30 @@ struct Placed {
     ghost also_logical: { IsTrue (is_logical above.axiom) },
 }
 
+fn below(alloc: Global, expression: &str) -> Result<Noted, Fail>
+    ensures { IfOk result (λ noted. IsTrue (is_logical noted.axiom)) }
+{
+    let text = format!(in alloc; "SubClassOf({expression} <u:X>)")?;
+    Ok(axiom(alloc, text.as_str()).ok_or("no class")?)
+}
+
+fn above(alloc: Global, expression: &str) -> Result<Noted, Fail>
+    ensures { IfOk result (λ noted. IsTrue (is_logical noted.axiom)) }
+{
+    let text = format!(in alloc; "SubClassOf(<u:X> {expression})")?;
+    Ok(axiom(alloc, text.as_str()).ok_or("no class")?)
+}
+
 fn placed(alloc: Global, expression: &str) -> Result<Placed, Fail> {
-    let below = format!(in alloc; "SubClassOf({expression} <u:X>)")?;
-    let above = format!(in alloc; "SubClassOf(<u:X> {expression})")?;
-    Ok(Placed {
-        below: axiom(alloc, below.as_str()).ok_or("no class")?,
-        above: axiom(alloc, above.as_str()).ok_or("no class")?,
-    })
+    let below = below(alloc, expression)?;
+    let above = above(alloc, expression)?;
+    Ok(Placed { below, above })
+}
+
+/// These names and u:X.
+fn seen_with_x(alloc: Global, names: &str) -> Result<Seed, Fail> {
+    let text = format!(in alloc; "Class(<u:X>) {names}")?;
+    Ok(seed(alloc, text.as_str()).ok_or("no seed")?)
 }
 
 /// What is sure of the expression on a side, for the seen names and u:X.
@@ -126,8 +143,7 @@ fn sure(side: Side, placed: &Placed, seen: &Seed) -> Sure {
 /// What is sure of an expression on the bottom side and on the top side where these names are seen.
 pub(crate) fn sure_for(alloc: Global, expression: &str, names: &str) -> Result<(Sure, Sure), Fail> {
     let placed = placed(alloc, expression)?;
-    let names = format!(in alloc; "Class(<u:X>) {names}")?;
-    let seen = seed(alloc, names.as_str()).ok_or("no seed")?;
+    let seen = seen_with_x(alloc, names)?;
     Ok((
         sure(Side::Bottom, &placed, &seen),
         sure(Side::Top, &placed, &seen),
