@@ -119,16 +119,16 @@ static CARRIED: [(&str, u32); 11] = [
     ("Ontology ( AnnotationPropertyRange ( <u:n> <u:A> ) )", 8),
 ];
 
-/// What is found of a text.
+/// What a reader answers to a text.
 #[derive(Clone, Copy, PartialEq, Eq, Debug)]
-enum Found {
+enum Answer {
     Read,
     Syntax,
     Other,
 }
 
 /// How a text is read, as a single axiom or as a document.
-fn found(alloc: Global, text: &[u8], document: bool) -> Found
+fn answer_to(alloc: Global, text: &[u8], document: bool) -> Answer
     requires { length text.now < 2 ^ 32 }
 {
     let limits = Limits::standard();
@@ -138,16 +138,16 @@ fn found(alloc: Global, text: &[u8], document: bool) -> Found
         read_axiom(alloc, text, &limits).err()
     };
     match refused {
-        None => Found::Read,
-        Some(ReadRefused::Syntax { .. }) => Found::Syntax,
-        Some(_) => Found::Other,
+        None => Answer::Read,
+        Some(ReadRefused::Syntax { .. }) => Answer::Syntax,
+        Some(_) => Answer::Other,
     }
 }
 
 /// A text without one of its tokens, if it has so many.
 fn without(alloc: Global, text: &str, left_out: u32) -> Result<Option<String>, AllocError> {
     let mut rest = String::new(alloc);
-    let mut number = 0;
+    let mut number: u32 = 0;
     let mut has_it = false;
     for token in text.split(' ') {
         if number == left_out {
@@ -156,25 +156,23 @@ fn without(alloc: Global, text: &str, left_out: u32) -> Result<Option<String>, A
             rest.push_str(token)?;
             rest.push_str(" ")?;
         }
-        number += 1;
+        number = number.saturating_add(1);
     }
     Ok(if has_it { Some(rest) } else { None })
 }
 
 /// How many tokens there are, up to the first that a text can do without.
 fn needed(alloc: Global, text: &str, document: bool) -> Result<u32, Fail> {
-    let mut number = 0;
-    while number < 100 {
+    for number in 0..100 {
         let Some(rest) = without(alloc, text, number)? else {
             return Ok(number);
         };
         let bytes = rest.as_str().as_bytes();
-        if bytes.len() >= 1_000 || found(alloc, bytes, document) != Found::Syntax {
+        if bytes.len() >= 1_000 || answer_to(alloc, bytes, document) != Answer::Syntax {
             return Ok(number);
         }
-        number += 1;
     }
-    Ok(number)
+    Ok(100)
 }
 
 #[test]
@@ -182,8 +180,8 @@ fn no_token_of_an_axiom_of_classes(rt: HostRuntime) -> Result<(), Fail> {
     for (text, tokens) in OF_CLASSES.iter().copied() {
         assert!(rt; text.len() < 1_000);
         assert_eq!(rt;
-            found(rt.alloc(), text.as_bytes(), false),
-            Found::Read,
+            answer_to(rt.alloc(), text.as_bytes(), false),
+            Answer::Read,
             "at {text}"
         );
         assert_eq!(rt; needed(rt.alloc(), text, false)?, tokens, "at {text}");
@@ -196,8 +194,8 @@ fn no_token_of_an_axiom_of_data(rt: HostRuntime) -> Result<(), Fail> {
     for (text, tokens) in OF_DATA.iter().copied() {
         assert!(rt; text.len() < 1_000);
         assert_eq!(rt;
-            found(rt.alloc(), text.as_bytes(), false),
-            Found::Read,
+            answer_to(rt.alloc(), text.as_bytes(), false),
+            Answer::Read,
             "at {text}"
         );
         assert_eq!(rt; needed(rt.alloc(), text, false)?, tokens, "at {text}");
@@ -210,8 +208,8 @@ fn no_token_of_an_expression(rt: HostRuntime) -> Result<(), Fail> {
     for (text, tokens) in OF_EXPRESSIONS.iter().copied() {
         assert!(rt; text.len() < 1_000);
         assert_eq!(rt;
-            found(rt.alloc(), text.as_bytes(), false),
-            Found::Read,
+            answer_to(rt.alloc(), text.as_bytes(), false),
+            Answer::Read,
             "at {text}"
         );
         assert_eq!(rt; needed(rt.alloc(), text, false)?, tokens, "at {text}");
@@ -224,8 +222,8 @@ fn no_token_of_a_document(rt: HostRuntime) -> Result<(), Fail> {
     for (text, tokens) in CARRIED.iter().copied() {
         assert!(rt; text.len() < 1_000);
         assert_eq!(rt;
-            found(rt.alloc(), text.as_bytes(), true),
-            Found::Read,
+            answer_to(rt.alloc(), text.as_bytes(), true),
+            Answer::Read,
             "at {text}"
         );
         assert_eq!(rt; needed(rt.alloc(), text, true)?, tokens, "at {text}");
