@@ -17,7 +17,7 @@ use Rattle.ad_run.specs.Statuses.{status_of}
 use Rattle.ad_run.specs.Words.{module_side}
 use Rattle.ad_run.specs.Command.{IsCommand, kind_of, of_module, of_script}
 use Rattle.ad_run.specs.Output.{IsModuleDocument, IsOutput, standard}
-use Rattle.ad_run.specs.Ends.{IsRead}
+use Rattle.ad_run.specs.Inputs.{IsRead}
 use Rattle.ad_run.specs.Answered.{IsAnswered}
 use Rattle.ad_run.specs.Scripts.{ScriptEnds}
 use Rattle.ad_run.specs.Runs.{EndsSo, RunCause, IsSomeScript}
@@ -33,7 +33,7 @@ pub answered_ends : (words : List (List ℕ)) (side : Side) (seed : List Entity)
 answered_ends words side seed text a b is read Done h =
     record { command = of_module (kind_of side) seed; commanded = is; ran = (h.0, record { text = text; read = read; is_output = is_output side seed text h.0 h.1 }, h.2) }
 answered_ends words side seed text a b is read Usage h = absurd h
-answered_ends words side seed text a b is read Refused h =
+answered_ends words side seed text a b is read (Refused refusal) h =
     record { command = of_module (kind_of side) seed; commanded = is; ran = (inl (text, read, h.0), h.1) }
 answered_ends words side seed text a b is read Cut h = absurd h
 answered_ends words side seed text a b is read TooLong h = absurd h
@@ -71,7 +71,7 @@ module _ (a b : Flow) (log : List Logged) where
 pub script_ran : (words : List (List ℕ)) (a b : Flow) → IsSomeScript words → (s : Status) → ScriptEnds a b s → EndsSo words a b s
 script_ran words a b is Done h = record { command = of_script is.workers; commanded = is.commanded; ran = h }
 script_ran words a b is Usage h = absurd h
-script_ran words a b is Refused h = absurd h
+script_ran words a b is (Refused refusal) h = absurd h
 script_ran words a b is Cut h = record { command = of_script is.workers; commanded = is.commanded; ran = h }
 script_ran words a b is TooLong h = record { command = of_script is.workers; commanded = is.commanded; ran = h }
 script_ran words a b is Spent h = record { command = of_script is.workers; commanded = is.commanded; ran = h }

@@ -1,5 +1,7 @@
 pub mod WordLemmas
 pub mod OntologyLemmas
+pub mod CauseLemmas
+pub mod NoteLemmas
 pub mod RunLemmas
 pub mod EndLemmas
 pub mod ScriptLemmas

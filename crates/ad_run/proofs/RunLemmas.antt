@@ -13,8 +13,12 @@ use Rattle.ad_run.specs.declared.status.Status.TheVariants.{Done, Usage, Refused
 use Rattle.ad_run.specs.Statuses.{code_of}
 use Rattle.ad_run.specs.Command.{Command, IsCommand, of_module, of_script}
 use Rattle.ad_run.specs.Output.{IsOntology, IsNoOntology, IsOutput}
-use Rattle.ad_run.specs.Ends.{IsRead, Does, Refuses, payload_limit}
+use Rattle.ad_reply.specs.declared.refusal.Refusal.{Refusal}
+use Rattle.ad_run.specs.Causes.{IsUnfitFor}
+use Rattle.ad_run.specs.Inputs.{IsRead, payload_limit}
+use Rattle.ad_run.specs.Ends.{Does, RefusesFor, Refuses, IsRefused}
 use Rattle.ad_run.specs.Runs.{EndsSo, RunCause, IsSomeModule}
+use Rattle.ad_run.proofs.CauseLemmas.{apart}
 
 -- a source that tells a text and was read to its end had just this text
 pub read_whole : (left left' : Option (List ℕ)) (text found : List ℕ) → left ≡ Some text → IsSome left' → IsRead left left' found → found ≡ text
@@ -49,12 +53,16 @@ not_both words kind seed (Some workers) m s = let same : codes "module" ≡ code
 
 module _ (words : List (List ℕ)) (a b : Flow) (text : List ℕ) (told : a.left ≡ Some text) (tells : IsSome b.left) where
   -- a document that is refused has no ontology
-  unfit_text : (command : Command) (m : IsSomeModule words) → IsCommand words command → Refuses command a b → IsNoOntology text ⊎ (payload_limit < length text)
-  unfit_text (of_module kind seed) m is h = elim h.0 [
-    | inl u ↦ inl (subst IsNoOntology (read_whole a.left b.left text u.0 told tells u.1) u.2)
-    | inr u ↦ inr (let more = lost_more a.left b.left text (payload_limit + 1) told tells u in omega (arith, more))
+  unfit_text : (refusal : Refusal) (command : Command) (m : IsSomeModule words) → IsCommand words command → RefusesFor refusal command a b → IsNoOntology text ⊎ (payload_limit < length text)
+  unfit_text refusal (of_module kind seed) m is h = elim h.0 [
+    | inl u ↦ inl (λ ontology found. apart text ontology refusal found (subst (λ t. IsUnfitFor t refusal) (read_whole a.left b.left text u.0 told tells u.1) u.2))
+    | inr u ↦ inr (let more = lost_more a.left b.left text (payload_limit + 1) told tells u.1 in omega (arith, more))
   ]
-  unfit_text (of_script workers) m is h = absurd (not_both words m.kind m.seed workers m.commanded is)
+  unfit_text refusal (of_script workers) m is h = absurd h
+
+  broken_text : (command : Command) (m : IsSomeModule words) → IsCommand words command → Refuses command a b → IsNoOntology text ⊎ (payload_limit < length text)
+  broken_text (of_module kind seed) m is h = unfit_text h.0 (of_module kind seed) m is h.1
+  broken_text (of_script workers) m is h = absurd (not_both words m.kind m.seed workers m.commanded is)
 
   fits : (ontology : List Noted) → length text ≤ payload_limit → IsOntology text ontology → IsNoOntology text ⊎ (payload_limit < length text) → ⊥
   fits ontology short found (inl none) = none ontology found
@@ -74,10 +82,10 @@ module _ (words : List (List ℕ)) (a b : Flow) (text : List ℕ) (told : a.left
       → (code_of s ≡ 0) ⊎ (code_of s ≡ 6)
   answered Done ontology ends cause some short found reads writes = inl refl
   answered Usage ontology ends cause some short found reads writes = absurd (ends (of_module some.kind some.seed) some.commanded)
-  answered Refused ontology ends cause some short found reads writes = absurd (fits ontology short found (unfit_text ends.command some ends.commanded ends.ran))
-  answered Cut ontology ends cause some short found reads writes = absurd (fits ontology short found (unfit_text ends.command some ends.commanded ends.ran))
-  answered TooLong ontology ends cause some short found reads writes = absurd (fits ontology short found (unfit_text ends.command some ends.commanded ends.ran))
-  answered Spent ontology ends cause some short found reads writes = absurd (fits ontology short found (unfit_text ends.command some ends.commanded ends.ran))
+  answered (Refused refusal) ontology ends cause some short found reads writes = absurd (fits ontology short found (unfit_text refusal ends.command some ends.commanded ends.ran))
+  answered Cut ontology ends cause some short found reads writes = absurd (fits ontology short found (broken_text ends.command some ends.commanded ends.ran))
+  answered TooLong ontology ends cause some short found reads writes = absurd (fits ontology short found (broken_text ends.command some ends.commanded ends.ran))
+  answered Spent ontology ends cause some short found reads writes = absurd (fits ontology short found (broken_text ends.command some ends.commanded ends.ran))
   answered ReadFault ontology ends cause some short found reads writes = absurd (reads (cause.read_fault refl))
   answered WriteFault ontology ends cause some short found reads writes = absurd (writes (cause.write_fault refl))
   answered Memory ontology ends cause some short found reads writes = inr refl
@@ -88,13 +96,29 @@ module _ (words : List (List ℕ)) (a b : Flow) (text : List ℕ) (told : a.left
       → (code_of s ≡ 3) ⊎ (code_of s ≡ 6)
   refuses Done ends cause some unfit reads writes = let done = done_text ends.command some ends.commanded ends.ran in absurd (fits done.0 done.2 done.1 unfit)
   refuses Usage ends cause some unfit reads writes = absurd (ends (of_module some.kind some.seed) some.commanded)
-  refuses Refused ends cause some unfit reads writes = inl refl
+  refuses (Refused refusal) ends cause some unfit reads writes = inl refl
   refuses Cut ends cause some unfit reads writes = inl refl
   refuses TooLong ends cause some unfit reads writes = inl refl
   refuses Spent ends cause some unfit reads writes = inl refl
   refuses ReadFault ends cause some unfit reads writes = absurd (reads (cause.read_fault refl))
   refuses WriteFault ends cause some unfit reads writes = absurd (writes (cause.write_fault refl))
   refuses Memory ends cause some unfit reads writes = inr refl
+
+refused_for : (refusal : Refusal) (command : Command) (a b : Flow) → RefusesFor refusal command a b → Refuses command a b
+refused_for refusal (of_module kind seed) a b h = (refusal, h)
+refused_for refusal (of_script workers) a b h = absurd h
+
+-- its input was refused
+pub is_refused : (words : List (List ℕ)) (a b : Flow) (s : Status) → EndsSo words a b s → code_of s ≡ 3 → IsRefused words a b
+is_refused words a b Done ends code = absurd (omega (arith, code))
+is_refused words a b Usage ends code = absurd (omega (arith, code))
+is_refused words a b (Refused refusal) ends code = record { command = ends.command; commanded = ends.commanded; ran = refused_for refusal ends.command a b ends.ran }
+is_refused words a b Cut ends code = ends
+is_refused words a b TooLong ends code = ends
+is_refused words a b Spent ends code = ends
+is_refused words a b ReadFault ends code = absurd (omega (arith, code))
+is_refused words a b WriteFault ends code = absurd (omega (arith, code))
+is_refused words a b Memory ends code = absurd (omega (arith, code))
 
 -- the exit status is this code or that of wanting memory
 pub either_code : (n result code : ℕ) → result ≡ code → (code ≡ n) ⊎ (code ≡ 6) → (result ≡ n) ⊎ (result ≡ 6)

@@ -15,7 +15,8 @@ use Rattle.ad_run.specs.declared.status.Status.TheVariants.{Done, Usage, Refused
 use Rattle.ad_run.specs.Statuses.{code_of}
 use Rattle.ad_run.specs.Command.{Command, IsCommand, of_module, of_script}
 use Rattle.ad_run.specs.Output.{standard}
-use Rattle.ad_run.specs.Ends.{Does, Refuses, IsClosing, IsBreak, RunsSession}
+use Rattle.ad_reply.specs.declared.refusal.Refusal.{Refusal}
+use Rattle.ad_run.specs.Ends.{Does, RefusesFor, Refuses, IsClosing, IsBreak, RunsSession}
 use Rattle.ad_run.specs.Runs.{EndsSo, RunCause, IsSomeScript, code_at}
 use Rattle.ad_run.proofs.RunLemmas.{not_both}
 
@@ -65,12 +66,17 @@ module _ (words : List (List ℕ)) (a b : Flow) (text : List ℕ) (told : a.left
   broken (of_module kind seed) some asked h = absurd (not_both words kind seed some.workers asked some.commanded)
   broken (of_script workers) some asked h = breaks h.log h.end h.fits h.session
 
+  -- it has no document that could be refused
+  no_document : (refusal : Refusal) (command : Command) → IsSomeScript words → IsCommand words command → RefusesFor refusal command a b → ⊥
+  no_document refusal (of_module kind seed) some asked h = not_both words kind seed some.workers asked some.commanded
+  no_document refusal (of_script workers) some asked h = h
+
   -- where nothing fails, the status is that of the end
   pub session_code : (status : Status) → EndsSo words a b status → RunCause a b status → IsSomeScript words → NotRisen a.read_faults b.read_faults → NotRisen a.write_faults b.write_faults
       → (code_of status ≡ code_at s.ending) ⊎ (code_of status ≡ 6)
   session_code Done ran cause some reads writes = inl (done ran.command some ran.commanded ran.ran)
   session_code Usage ran cause some reads writes = absurd (ran (of_script some.workers) some.commanded)
-  session_code Refused ran cause some reads writes = inl (broken ran.command some ran.commanded ran.ran)
+  session_code (Refused refusal) ran cause some reads writes = absurd (no_document refusal ran.command some ran.commanded ran.ran)
   session_code Cut ran cause some reads writes = inl (broken ran.command some ran.commanded ran.ran)
   session_code TooLong ran cause some reads writes = inl (broken ran.command some ran.commanded ran.ran)
   session_code Spent ran cause some reads writes = inl (broken ran.command some ran.commanded ran.ran)

@@ -41,7 +41,7 @@ looked_enters : (session : ℕ) (log : List Logged) (old : Pass) → IsPassOf se
 unfolding looked
 looked_enters session log old p = record { entered = p.entered; told_too = p.told; looks = omega arith; told = refl; lapses = omega arith }
 
-queries_as : (limits : Limits) (session : ℕ) (log : List Logged) (old : Pass) (i : Item) (reply : Reply) (new : Sight) → new ≡ looked old.sight log → IsPassOf session log old → says.Says old.sight i reply new → StepsAs limits session old i reply log
+queries_as : (limits : Limits) (session : ℕ) (log : List Logged) (old : Pass) (i : Item) (reply : Reply) (new : Sight) → new ≡ looked old.sight log → IsPassOf session log old → says.Says limits.depth old.sight i reply new → StepsAs limits session old i reply log
 unfolding looked
 queries_as limits session log old i reply new e p s = record {
   new = pass new old.ticket old.count;
@@ -49,15 +49,15 @@ queries_as limits session log old i reply new e p s = record {
   is = subst (λ (sight : Sight). IsPassOf session log (pass sight old.ticket old.count)) (sym e) (record { ticket = p.ticket; count = p.count; lapses = p.lapses; entered = front_itself log; told = p.told });
 }
 
-still : (limits : Limits) (session : ℕ) (log : List Logged) (old : Pass) (i : Item) (reply : Reply) → IsPassOf session log old → says.Says old.sight i reply old.sight → StepsAs limits session old i reply log
+still : (limits : Limits) (session : ℕ) (log : List Logged) (old : Pass) (i : Item) (reply : Reply) → IsPassOf session log old → says.Says limits.depth old.sight i reply old.sight → StepsAs limits session old i reply log
 still limits session log old i reply p s = record { new = pass old.sight old.ticket old.count; step = answers.said old.sight s refl; is = stays session log old p }
 
 step_as : (limits : Limits) (session : ℕ) (before after : List Logged) (i : Item) (reply : Reply) (old : Pass) → IsPassOf session before old → MachineAnswers limits session before i reply after → StepsAs limits session old i reply after
 unfolding looked
 step_as limits session before after i reply old p (machines.unasked asked is same) =
     subst (λ (l : List Logged). StepsAs limits session old i reply l) (sym same) (still limits session before old i reply p (says.unasked asked is refl))
-step_as limits session before after i reply old p (machines.unread r asked other is same) =
-    subst (λ (l : List Logged). StepsAs limits session old i reply l) (sym same) (still limits session before old i reply p (says.unread r asked other is refl))
+step_as limits session before after i reply old p (machines.unread r cause asked known unread is same) =
+    subst (λ (l : List Logged). StepsAs limits session old i reply l) (sym same) (still limits session before old i reply p (says.unread r cause asked known unread is refl))
 step_as limits session before after i reply old p (machines.wanting r asked takes is same) =
     subst (λ (l : List Logged). StepsAs limits session old i reply l) (sym same) (still limits session before old i reply p (says.wanting r asked takes is refl))
 step_as limits session before after i reply old p (machines.queried r body asked is eq same) =

@@ -126,29 +126,29 @@ rounds_end limits session answered next end a mid now old log new so reads write
     }
 
 -- items, and the edit behind them
-lost_edit : (bounds : Bounds) (count : ℕ) (a mid now : Flow) (items : List Item) (replies : List Reply) (ops : List Op) (p : PausesAt bounds count a mid items replies ops) → now.left ≡ mid.left → Loses a.left now.left (items_bytes (items ++ p.item ∷ []))
-lost_edit bounds count a mid now items replies ops p left =
+lost_edit : (bounds : Bounds) (depth count : ℕ) (a mid now : Flow) (items : List Item) (replies : List Reply) (ops : List Op) (p : PausesAt bounds depth count a mid items replies ops) → now.left ≡ mid.left → Loses a.left now.left (items_bytes (items ++ p.item ∷ []))
+lost_edit bounds depth count a mid now items replies ops p left =
     subst (λ (l : Option (List ℕ)). Loses a.left l (items_bytes (items ++ p.item ∷ []))) (sym left) (subst (λ t. Loses a.left mid.left t) (sym (bytes_more item_bytes items p.item)) p.lost)
 
-edit_ends : (bounds : Bounds) (before next : ℕ) (end : Option End) (a mid now : Flow) (items : List Item) (replies : List Reply) (ops : List Op) (reply : Reply)
-    → (p : PausesAt bounds (before + length items) a mid items replies ops) → now.left ≡ mid.left → a.write_faults ≤ mid.write_faults → Puts mid.written now.written (wrote_of end) (reply_bytes reply) → PutCause mid.write_faults now.write_faults (wrote_of end) → next ≡ before + length items + counted_by end → IfSome end (λ e. e ≡ ends.WriteFault)
+edit_ends : (bounds : Bounds) (depth before next : ℕ) (end : Option End) (a mid now : Flow) (items : List Item) (replies : List Reply) (ops : List Op) (reply : Reply)
+    → (p : PausesAt bounds depth (before + length items) a mid items replies ops) → now.left ≡ mid.left → a.write_faults ≤ mid.write_faults → Puts mid.written now.written (wrote_of end) (reply_bytes reply) → PutCause mid.write_faults now.write_faults (wrote_of end) → next ≡ before + length items + counted_by end → IfSome end (λ e. e ≡ ends.WriteFault)
     → RoundEnds bounds end before next (before + length (items ++ p.item ∷ [])) a now (items ++ p.item ∷ []) (replies ++ reply ∷ [])
-edit_ends bounds before next None a mid now items replies ops reply p left later puts cause counted fault = record {
+edit_ends bounds depth before next None a mid now items replies ops reply p left later puts cause counted fault = record {
   counted = omega (arith, length-append items (p.item ∷ []));
   more = omega arith;
-  lost = lost_edit bounds (before + length items) a mid now items replies ops p left;
+  lost = lost_edit bounds depth (before + length items) a mid now items replies ops p left;
   gained = gained_more a mid now replies reply p.gained puts;
 }
-edit_ends bounds before next (Some e) a mid now items replies ops reply p left later puts cause counted fault =
+edit_ends bounds depth before next (Some e) a mid now items replies ops reply p left later puts cause counted fault =
     subst (λ (x : End). EndsSo bounds x (before + length (items ++ p.item ∷ [])) a now (items ++ p.item ∷ []) (replies ++ reply ∷ [])) (sym fault) (record {
-      lost = lost_edit bounds (before + length items) a mid now items replies ops p left;
+      lost = lost_edit bounds depth (before + length items) a mid now items replies ops p left;
       gained = gained_front a mid now replies reply p.gained puts;
       rose = rose_since a.write_faults mid.write_faults now.write_faults later (cause.failed refl);
     })
 
 -- items up to an edit, and the edit's reply or a front of it
 pub round_of_edit : (limits : Limits) (session before next : ℕ) (end : Option End) (a mid now : Flow) (old new : List Logged) (items : List Item) (replies : List Reply) (ops : List Op) (reply : Reply)
-    → AreItems (bounds_of limits) before items → MachineRun limits session old items replies old → (p : PausesAt (bounds_of limits) (before + length items) a mid items replies ops) → MachineAnswers limits session old p.item reply new
+    → AreItems (bounds_of limits) before items → MachineRun limits session old items replies old → (p : PausesAt (bounds_of limits) limits.depth (before + length items) a mid items replies ops) → MachineAnswers limits session old p.item reply new
     → now.left ≡ mid.left → a.write_faults ≤ mid.write_faults → Puts mid.written now.written (wrote_of end) (reply_bytes reply) → PutCause mid.write_faults now.write_faults (wrote_of end) → next ≡ before + length items + counted_by end → IfSome end (λ e. e ≡ ends.WriteFault)
     → RoundIs limits session end before next a now old new
 round_of_edit limits session before next end a mid now old new items replies ops reply are run p answers left later puts cause counted fault = record {
@@ -156,5 +156,5 @@ round_of_edit limits session before next end a mid now old new items replies ops
   replies = replies ++ reply ∷ [];
   items_are = items_more (bounds_of limits) before items p.item are p.edit.is p.in_time;
   run = steps_more (MachineAnswers limits session) old old new items replies p.item reply run answers;
-  ends = edit_ends (bounds_of limits) before next end a mid now items replies ops reply p left later puts cause counted fault;
+  ends = edit_ends (bounds_of limits) limits.depth before next end a mid now items replies ops reply p left later puts cause counted fault;
 }

@@ -82,7 +82,7 @@ begins_whole session old mid new t =
     ∙ take-length old.log
 
 -- so its replies are on the whole log
-pub talked_run : (limits : Limits) (session : ℕ) (old mid new : State) (items : List Item) (replies : List Reply) → Talked session old mid new → Steps Says (sight_of mid) items replies (sight_of new) → MachineRun limits session old.log items replies old.log
+pub talked_run : (limits : Limits) (session : ℕ) (old mid new : State) (items : List Item) (replies : List Reply) → Talked session old mid new → Steps (Says limits.depth) (sight_of mid) items replies (sight_of new) → MachineRun limits session old.log items replies old.log
 talked_run limits session old mid new items replies t run =
     talk_machine limits session old.log (sight_of mid) (sight_of new) items replies run
     (subst (λ (l : List Logged). IsFront old.log l) (sym (begins_whole session old mid new t)) (front_itself old.log))
@@ -90,7 +90,7 @@ talked_run limits session old mid new items replies t run =
     refl
 
 -- a round up to the end
-pub round_ends : (limits : Limits) (session n answered : ℕ) (end : End) (a b : Flow) (old mid new : State) → limits ≡ old.limits → Talked session old mid new → TalkIs (bounds_of limits) (pauses.Ended end) n answered a b (sight_of mid) (sight_of new) → RoundIs old.limits session (Some end) n answered a b old.log new.log
+pub round_ends : (limits : Limits) (session n answered : ℕ) (end : End) (a b : Flow) (old mid new : State) → limits ≡ old.limits → Talked session old mid new → TalkIs (bounds_of limits) limits.depth (pauses.Ended end) n answered a b (sight_of mid) (sight_of new) → RoundIs old.limits session (Some end) n answered a b old.log new.log
 round_ends limits session n answered end a b old mid new of t talk =
     subst (λ (l : Limits). RoundIs l session (Some end) n answered a b old.log new.log) of
     (subst (λ (log : List Logged). RoundIs limits session (Some end) n answered a b old.log log) (sym (talked_log session old mid new t)) (record {
@@ -109,7 +109,7 @@ pub record Commits (machine : State) (session : ℕ) (ops : List Op) (outcome : 
   pub refused : IfErr outcome (λ cause. IsRefusalOf machine ops cause)
   pub unchanged : OnErr outcome (new ≡ machine)
 
-commit_answers : (machine : State) (session : ℕ) (i : Item) (ops : List Op) (outcome : Result Receipt Refused) (new : State) (limits : Limits) → IsEdit (bounds_of limits) i ops → Commits machine session ops outcome new → MachineAnswers machine.limits session machine.log i (outcome_reply outcome) new.log
+commit_answers : (machine : State) (session : ℕ) (i : Item) (ops : List Op) (outcome : Result Receipt Refused) (new : State) (limits : Limits) → IsEdit (bounds_of limits) machine.limits.depth i ops → Commits machine session ops outcome new → MachineAnswers machine.limits session machine.log i (outcome_reply outcome) new.log
 commit_answers machine session i ops (Ok receipt) new limits edit c = commit_accepted machine session edit.request i ops receipt new edit.asked edit.spelled (c.within refl) c.receipt c.accepted
 commit_answers machine session i ops (Err cause) new limits edit c = commit_refused machine session edit.request i ops cause new edit.asked edit.spelled c.refused c.unchanged
 
@@ -123,14 +123,16 @@ commit_session machine session ops (Err cause) new c = ap (λ (m : State). m.ses
 
 -- a round up to an edit
 pub round_edits : (limits : Limits) (session n answered next : ℕ) (ops : List Op) (outcome : Result Receipt Refused) (end : Option End) (a b c : Flow) (old mid machine new : State) → limits ≡ old.limits → Talked session old mid machine
-    → TalkIs (bounds_of limits) (pauses.Edit ops) n answered a b (sight_of mid) (sight_of machine) → Commits machine session ops outcome new
+    → TalkIs (bounds_of limits) limits.depth (pauses.Edit ops) n answered a b (sight_of mid) (sight_of machine) → Commits machine session ops outcome new
     → c.left ≡ b.left → a.write_faults ≤ b.write_faults → Puts b.written c.written (wrote_of end) (reply_bytes (outcome_reply outcome)) → PutCause b.write_faults c.write_faults (wrote_of end) → next ≡ answered + counted_by end → IfSome end (λ e. e ≡ ends.WriteFault)
     → RoundIs old.limits session end n next a c old.log new.log
 round_edits limits session n answered next ops outcome end a b c old mid machine new of t talk commits left later puts cause counted fault =
     let log : machine.log ≡ old.log = talked_log session old mid machine t in
     let edit = talk.pauses.0 in
-    let answers = commit_answers machine session edit.item ops outcome new limits edit.edit commits in
-    let on_limits = subst (λ (l : Limits). MachineAnswers l session machine.log edit.item (outcome_reply outcome) new.log) (talked_limits session old mid machine t ∙ sym of) answers in
+    let kept : limits ≡ machine.limits = of ∙ sym (talked_limits session old mid machine t) in
+    let read = subst (λ (l : Limits). IsEdit (bounds_of limits) l.depth edit.item ops) kept edit.edit in
+    let answers = commit_answers machine session edit.item ops outcome new limits read commits in
+    let on_limits = subst (λ (l : Limits). MachineAnswers l session machine.log edit.item (outcome_reply outcome) new.log) (sym kept) answers in
     let on_log = subst (λ (l : List Logged). MachineAnswers limits session l edit.item (outcome_reply outcome) new.log) log on_limits in
     subst (λ (l : Limits). RoundIs l session end n next a c old.log new.log) of
     (round_of_edit limits session n next end a b c old.log new.log talk.items talk.replies ops (outcome_reply outcome) talk.items_are (talked_run limits session old mid machine talk.items talk.replies t talk.run) edit on_log left later puts cause (counted ∙ ap (λ k. k + counted_by end) talk.pauses.1) fault)

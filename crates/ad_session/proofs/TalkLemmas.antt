@@ -41,17 +41,17 @@ pub bytes_more : {X : Type 0} (bytes : X → List ℕ) (xs : List X) (x : X) →
 bytes_more bytes xs x = flat_map-append bytes xs (x ∷ []) ∙ ap (λ t. flat_map bytes xs ++ t) (append-nil (bytes x))
 
 -- a talk so far: all replies to the items were written
-pub record TalkedSo (bounds : Bounds) (n answered : ℕ) (a now : Flow) (old sight : Sight) : Type 0 where
+pub record TalkedSo (bounds : Bounds) (depth n answered : ℕ) (a now : Flow) (old sight : Sight) : Type 0 where
   pub items : List Item
   pub replies : List Reply
   pub items_are : AreItems bounds n items
-  pub run : Steps Says old items replies sight
+  pub run : Steps (Says depth) old items replies sight
   pub count : answered ≡ n + length items
   pub lost : Loses a.left now.left (items_bytes items)
   pub gained : Gains a.written now.written (replies_bytes replies)
 
-pub talked_none : (bounds : Bounds) (n : ℕ) (a : Flow) (sight : Sight) → TalkedSo bounds n n a a sight sight
-talked_none bounds n a sight = record {
+pub talked_none : (bounds : Bounds) (depth n : ℕ) (a : Flow) (sight : Sight) → TalkedSo bounds depth n n a a sight sight
+talked_none bounds depth n a sight = record {
   items = [];
   replies = [];
   items_are = record { each = tt; room = inl refl };
@@ -80,28 +80,28 @@ gained_no_more : (a mid now : Flow) (replies : List Reply) → Gains a.written m
 gained_no_more a mid now replies first none = let e : replies_bytes replies ++ [] ≡ replies_bytes replies = append-nil (replies_bytes replies) in subst (λ t. Gains a.written now.written t) e (goes_on a.written mid.written now.written (replies_bytes replies) [] first none)
 
 -- one more item was answered
-pub talked_more : (bounds : Bounds) (n answered : ℕ) (a mid now : Flow) (old sight new : Sight) → TalkedSo bounds n answered a mid old sight → answered < bounds.requests → TurnsOnce bounds mid now sight new → TalkedSo bounds n (answered + 1) a now old new
-talked_more bounds n answered a mid now old sight new so few turn =
+pub talked_more : (bounds : Bounds) (depth n answered : ℕ) (a mid now : Flow) (old sight new : Sight) → TalkedSo bounds depth n answered a mid old sight → answered < bounds.requests → TurnsOnce bounds depth mid now sight new → TalkedSo bounds depth n (answered + 1) a now old new
+talked_more bounds depth n answered a mid now old sight new so few turn =
     let count : answered ≡ n + length so.items = so.count in
     record {
       items = so.items ++ turn.item ∷ [];
       replies = so.replies ++ turn.reply ∷ [];
       items_are = items_more bounds n so.items turn.item so.items_are turn.is (omega arith);
-      run = steps_more Says old sight new so.items so.replies turn.item turn.reply so.run turn.says;
+      run = steps_more (Says depth) old sight new so.items so.replies turn.item turn.reply so.run turn.says;
       count = omega (arith, length-append so.items (turn.item ∷ []));
       lost = lost_more a mid now so.items turn.item so.lost turn.lost;
       gained = gained_more a mid now so.replies turn.reply so.gained turn.gained;
     }
 
 -- an edit was read
-pub talk_pauses : (bounds : Bounds) (n answered : ℕ) (a mid now : Flow) (old sight new : Sight) (batch : List Op) → TalkedSo bounds n answered a mid old sight → answered < bounds.requests → TurnsToEdit bounds mid now batch → new ≡ sight → TalkIs bounds (pauses.Edit batch) n answered a now old new
-talk_pauses bounds n answered a mid now old sight new batch so few turn seen =
+pub talk_pauses : (bounds : Bounds) (depth n answered : ℕ) (a mid now : Flow) (old sight new : Sight) (batch : List Op) → TalkedSo bounds depth n answered a mid old sight → answered < bounds.requests → TurnsToEdit bounds depth mid now batch → new ≡ sight → TalkIs bounds depth (pauses.Edit batch) n answered a now old new
+talk_pauses bounds depth n answered a mid now old sight new batch so few turn seen =
     let count : answered ≡ n + length so.items = so.count in
     record {
       items = so.items;
       replies = so.replies;
       items_are = so.items_are;
-      run = subst (λ s. Steps Says old so.items so.replies s) (sym seen) so.run;
+      run = subst (λ s. Steps (Says depth) old so.items so.replies s) (sym seen) so.run;
       pauses = (
         record {
           item = turn.item;
@@ -115,8 +115,8 @@ talk_pauses bounds n answered a mid now old sight new batch so few turn seen =
     }
 
 -- as many were answered as may be
-pub talk_spent : (bounds : Bounds) (n answered : ℕ) (a now : Flow) (old sight : Sight) → TalkedSo bounds n answered a now old sight → bounds.requests ≤ answered → TalkIs bounds (pauses.Ended ends.Spent) n answered a now old sight
-talk_spent bounds n answered a now old sight so all =
+pub talk_spent : (bounds : Bounds) (depth n answered : ℕ) (a now : Flow) (old sight : Sight) → TalkedSo bounds depth n answered a now old sight → bounds.requests ≤ answered → TalkIs bounds depth (pauses.Ended ends.Spent) n answered a now old sight
+talk_spent bounds depth n answered a now old sight so all =
     let count : answered ≡ n + length so.items = so.count in
     record {
       items = so.items;
@@ -132,12 +132,12 @@ talk_spent bounds n answered a now old sight so all =
       };
     }
 
-run_seen : (old sight new : Sight) (items : List Item) (replies : List Reply) → new ≡ sight → Steps Says old items replies sight → Steps Says old items replies new
-run_seen old sight new items replies seen run = subst (λ s. Steps Says old items replies s) (sym seen) run
+run_seen : (depth : ℕ) (old sight new : Sight) (items : List Item) (replies : List Reply) → new ≡ sight → Steps (Says depth) old items replies sight → Steps (Says depth) old items replies new
+run_seen depth old sight new items replies seen run = subst (λ s. Steps (Says depth) old items replies s) (sym seen) run
 
 -- the input ended
-ends_as : (bounds : Bounds) (ending : Ending) (n answered : ℕ) (a mid now : Flow) (old sight new : Sight) (so : TalkedSo bounds n answered a mid old sight) → InTime bounds ending (n + length so.items) → TurnsToEnd bounds ending mid now sight new → EndsAs bounds ending (n + length so.items) a now so.items so.replies
-ends_as bounds ending n answered a mid now old sight new so in_time turn = record {
+ends_as : (bounds : Bounds) (ending : Ending) (depth n answered : ℕ) (a mid now : Flow) (old sight new : Sight) (so : TalkedSo bounds depth n answered a mid old sight) → InTime bounds ending (n + length so.items) → TurnsToEnd bounds ending mid now sight new → EndsAs bounds ending (n + length so.items) a now so.items so.replies
+ends_as bounds ending depth n answered a mid now old sight new so in_time turn = record {
   taken = turn.end.taken;
   closes = turn.end.closes;
   in_time = in_time;
@@ -145,61 +145,61 @@ ends_as bounds ending n answered a mid now old sight new so in_time turn = recor
   gained = gained_no_more a mid now so.replies so.gained turn.gained;
 }
 
-in_time_for : (bounds : Bounds) (n answered : ℕ) (a mid : Flow) (old sight : Sight) (so : TalkedSo bounds n answered a mid old sight) → answered < bounds.requests → n + length so.items < bounds.requests
-in_time_for bounds n answered a mid old sight so few = let count : answered ≡ n + length so.items = so.count in omega arith
+in_time_for : (bounds : Bounds) (depth n answered : ℕ) (a mid : Flow) (old sight : Sight) (so : TalkedSo bounds depth n answered a mid old sight) → answered < bounds.requests → n + length so.items < bounds.requests
+in_time_for bounds depth n answered a mid old sight so few = let count : answered ≡ n + length so.items = so.count in omega arith
 
 pub rose_since : (a mid now : ℕ) → a ≤ mid → Rose mid now → Rose a now
 rose_since a mid now later rose = omega arith
 
-pub talk_ends : (bounds : Bounds) (end : End) (n answered counted : ℕ) (a mid now : Flow) (old sight new : Sight) → a.read_faults ≤ mid.read_faults → a.write_faults ≤ mid.write_faults → TalkedSo bounds n answered a mid old sight → answered < bounds.requests → EndsTurn bounds end mid now sight new → TalkIs bounds (pauses.Ended end) n counted a now old new
-talk_ends bounds ends.Quit n answered counted a mid now old sight new reads writes so few turn = record {
+pub talk_ends : (bounds : Bounds) (end : End) (depth n answered counted : ℕ) (a mid now : Flow) (old sight new : Sight) → a.read_faults ≤ mid.read_faults → a.write_faults ≤ mid.write_faults → TalkedSo bounds depth n answered a mid old sight → answered < bounds.requests → EndsTurn bounds depth end mid now sight new → TalkIs bounds depth (pauses.Ended end) n counted a now old new
+talk_ends bounds ends.Quit depth n answered counted a mid now old sight new reads writes so few turn = record {
   items = so.items;
   replies = so.replies;
   items_are = so.items_are;
-  run = run_seen old sight new so.items so.replies turn.seen so.run;
-  pauses = ends_as bounds quit n answered a mid now old sight new so (in_time_for bounds n answered a mid old sight so few) turn;
+  run = run_seen depth old sight new so.items so.replies turn.seen so.run;
+  pauses = ends_as bounds quit depth n answered a mid now old sight new so (in_time_for bounds depth n answered a mid old sight so few) turn;
 }
-talk_ends bounds ends.Closed n answered counted a mid now old sight new reads writes so few turn = record {
+talk_ends bounds ends.Closed depth n answered counted a mid now old sight new reads writes so few turn = record {
   items = so.items;
   replies = so.replies;
   items_are = so.items_are;
-  run = run_seen old sight new so.items so.replies turn.seen so.run;
-  pauses = ends_as bounds closed n answered a mid now old sight new so (in_time_for bounds n answered a mid old sight so few) turn;
+  run = run_seen depth old sight new so.items so.replies turn.seen so.run;
+  pauses = ends_as bounds closed depth n answered a mid now old sight new so (in_time_for bounds depth n answered a mid old sight so few) turn;
 }
-talk_ends bounds ends.Cut n answered counted a mid now old sight new reads writes so few turn = record {
+talk_ends bounds ends.Cut depth n answered counted a mid now old sight new reads writes so few turn = record {
   items = so.items;
   replies = so.replies;
   items_are = so.items_are;
-  run = run_seen old sight new so.items so.replies turn.seen so.run;
-  pauses = ends_as bounds cut n answered a mid now old sight new so (in_time_for bounds n answered a mid old sight so few) turn;
+  run = run_seen depth old sight new so.items so.replies turn.seen so.run;
+  pauses = ends_as bounds cut depth n answered a mid now old sight new so (in_time_for bounds depth n answered a mid old sight so few) turn;
 }
-talk_ends bounds ends.TooLong n answered counted a mid now old sight new reads writes so few turn = record {
+talk_ends bounds ends.TooLong depth n answered counted a mid now old sight new reads writes so few turn = record {
   items = so.items;
   replies = so.replies;
   items_are = so.items_are;
-  run = run_seen old sight new so.items so.replies turn.seen so.run;
-  pauses = ends_as bounds too_long n answered a mid now old sight new so (in_time_for bounds n answered a mid old sight so few) turn;
+  run = run_seen depth old sight new so.items so.replies turn.seen so.run;
+  pauses = ends_as bounds too_long depth n answered a mid now old sight new so (in_time_for bounds depth n answered a mid old sight so few) turn;
 }
-talk_ends bounds ends.Spent n answered counted a mid now old sight new reads writes so few turn = absurd turn
-talk_ends bounds ends.ReadFault n answered counted a mid now old sight new reads writes so few turn = record {
+talk_ends bounds ends.Spent depth n answered counted a mid now old sight new reads writes so few turn = absurd turn
+talk_ends bounds ends.ReadFault depth n answered counted a mid now old sight new reads writes so few turn = record {
   items = so.items;
   replies = so.replies;
   items_are = so.items_are;
-  run = run_seen old sight new so.items so.replies turn.seen so.run;
+  run = run_seen depth old sight new so.items so.replies turn.seen so.run;
   pauses = record {
     taken = turn.part.taken;
     part = turn.part.part;
-    in_time = in_time_for bounds n answered a mid old sight so few;
+    in_time = in_time_for bounds depth n answered a mid old sight so few;
     lost = loses_on a.left mid.left now.left (items_bytes so.items) turn.part.taken so.lost turn.part.lost;
     gained = gained_no_more a mid now so.replies so.gained turn.gained;
     rose = rose_since a.read_faults mid.read_faults now.read_faults reads turn.rose;
   };
 }
-talk_ends bounds ends.WriteFault n answered counted a mid now old sight new reads writes so few turn = record {
+talk_ends bounds ends.WriteFault depth n answered counted a mid now old sight new reads writes so few turn = record {
   items = so.items ++ turn.item ∷ [];
   replies = so.replies ++ turn.reply ∷ [];
-  items_are = items_more bounds n so.items turn.item so.items_are turn.is (in_time_for bounds n answered a mid old sight so few);
-  run = steps_more Says old sight new so.items so.replies turn.item turn.reply so.run turn.says;
+  items_are = items_more bounds n so.items turn.item so.items_are turn.is (in_time_for bounds depth n answered a mid old sight so few);
+  run = steps_more (Says depth) old sight new so.items so.replies turn.item turn.reply so.run turn.says;
   pauses = record {
     lost = lost_more a mid now so.items turn.item so.lost turn.lost;
     gained = gained_front a mid now so.replies turn.reply so.gained turn.gained;

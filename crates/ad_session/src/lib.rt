@@ -10,6 +10,8 @@ pub use work::{Talk, Work};
 
 mod answers;
 mod ends;
+#[cfg(test)]
+mod input_tests;
 mod laws;
 mod queries;
 mod sessions;

@@ -9,14 +9,14 @@ use std::process::Abort;
 use std::test::Fail;
 
 // An edit, a module, an edit that is none and whose last line is empty, and the whole ontology.
-const WORKED: &str =
+pub(crate) const WORKED: &str =
     "EDIT 25\n+SubClassOf(<u:A> <u:B>)\nMODULE bottom 13\nClass(<u:A>)\nEDIT 4\nwhat\nEXPORT\n";
 
-const WORKED_REPLIES: &str =
+pub(crate) const WORKED_REPLIES: &str =
     "OK 1 37\nadded 1 already 0 removed 0 absent 0\nOK 1 36\nOntology(\nSubClassOf(<u:A> <u:B>)\n)\nNO 20 0\nNO 10\nOK 1 36\nOntology(\nSubClassOf(<u:A> <u:B>)\n)\n";
 
 // Answers the input over a new machine, and compares the replies and the end.
-fn expect(
+pub(crate) fn expect(
     rt: &impl Abort,
     alloc: Global,
     limits: Limits,

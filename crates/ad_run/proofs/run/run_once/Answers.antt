@@ -1,11 +1,24 @@
 -- The text was answered, or refused, by how the run ended.
-use Rattle.std.proofs.Common.{◌≡◌}
+use Rattle.std.proofs.Common.{◌≡◌, sym, ◌∙◌}
 use Rattle.ad_session.specs.Flows.{flow}
 use Rattle.ad_run.specs.Statuses.{code_of}
 use Rattle.ad_run.specs.Runs.{code_at}
-use Rattle.ad_run.proofs.RunLemmas.{answered, refuses, either_code}
+use Rattle.ad_run.proofs.RunLemmas.{answered, refuses, is_refused, either_code}
 use Rattle.ad_run.proofs.ScriptLemmas.{session_code}
 use Rattle.ad_run.proofs.run.run_once.Goals as goal
+
+pub returns-clause-refused : goal.returns-clause-refused
+returns-clause-refused g c = λ code. is_refused c.args.words.now _ _ c.run-status.result c.run-status.ensures.ends (sym c.code.ensures ∙ code)
+
+pub returns-clause-told : goal.returns-clause-told
+returns-clause-told g c = record {
+  status = c.run-status.result;
+  coded = c.code.ensures;
+  ends = c.run-status.ensures.ends;
+  wrote = c.tell-wrote.result;
+  told = c.tell-wrote.ensures.bytes;
+  cause = c.tell-wrote.ensures.cause;
+}
 
 pub returns-clause-complete : goal.returns-clause-complete
 returns-clause-complete g c = λ text ontology some told tells short found reads writes.

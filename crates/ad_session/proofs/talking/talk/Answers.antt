@@ -6,7 +6,7 @@ use Rattle.ad_session.proofs.talking.talk.Goals as goal
 
 pub turns-init : goal.turns-init
 turns-init g c = record {
-  so = talked_none (bounds_of c.args.limits) c.args.talk.now.answered _ (g.L.Look.sight c.args.look.now);
+  so = talked_none (bounds_of c.args.limits) c.args.limits.depth c.args.talk.now.answered _ (g.L.Look.sight c.args.look.now);
   chair = search rules;
   footing = search rules;
   limits = search rules;
@@ -16,7 +16,7 @@ turns-init g c = record {
 
 pub turns-preserved : goal.turns-preserved
 turns-preserved g c = record {
-  so = talked_more (bounds_of c.args.limits) c.args.talk.now.answered c.turns.talk.answered _ _ _ _ _ _ c.turns.invariant.so c.turns-test.true c.in-Said.ensures.turn;
+  so = talked_more (bounds_of c.args.limits) c.args.limits.depth c.args.talk.now.answered c.turns.talk.answered _ _ _ _ _ _ c.turns.invariant.so c.turns-test.true c.in-Said.ensures.turn;
   chair = c.turns.invariant.chair;
   footing = c.take_turn.ensures.footing ∙ c.turns.invariant.footing;
   limits = c.take_turn.ensures.limits ∙ c.turns.invariant.limits;
@@ -26,8 +26,8 @@ turns-preserved g c = record {
 
 pub returns-in-Edit-clause-talk : goal.returns-in-Edit-clause-talk
 returns-in-Edit-clause-talk g c =
-    talk_pauses (bounds_of c.args.limits) c.args.talk.now.answered c.turns.talk.answered _ _ _ _ _ _ c.in-Edit.batch c.turns.invariant.so c.turns-test.true c.in-Edit.ensures.turn.0 c.in-Edit.ensures.turn.1
+    talk_pauses (bounds_of c.args.limits) c.args.limits.depth c.args.talk.now.answered c.turns.talk.answered _ _ _ _ _ _ c.in-Edit.batch c.turns.invariant.so c.turns-test.true c.in-Edit.ensures.turn.0 c.in-Edit.ensures.turn.1
 
 pub returns-in-Ended-clause-talk : goal.returns-in-Ended-clause-talk
 returns-in-Ended-clause-talk g c =
-    talk_ends (bounds_of c.args.limits) c.in-Ended.end c.args.talk.now.answered c.turns.talk.answered c.turns.talk.answered _ _ _ _ _ _ c.turns.invariant.reads c.turns.invariant.writes c.turns.invariant.so c.turns-test.true c.in-Ended.ensures.turn
+    talk_ends (bounds_of c.args.limits) c.in-Ended.end c.args.limits.depth c.args.talk.now.answered c.turns.talk.answered c.turns.talk.answered _ _ _ _ _ _ c.turns.invariant.reads c.turns.invariant.writes c.turns.invariant.so c.turns-test.true c.in-Ended.ensures.turn
