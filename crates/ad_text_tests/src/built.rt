@@ -64,78 +64,162 @@ fn unknown(alloc: Global, text: &[u8]) -> Result<Option<u32>, Fail>
     Ok(first_unknown(text, found.list(), behind, &prefixes))
 }
 
-/// What a prefix stands for, behind the declarations of a text.
-fn stands_for(alloc: Global, text: &[u8], prefix: &str) -> Result<Option<Word>, Fail>
+/// A class in a word: its name, or what it is.
+fn class_word(found: &Option<Class>) -> &str {
+    match found {
+        Some(Class::Named(name)) => name.as_str(),
+        Some(Class::Not(_)) => "complement",
+        Some(_) => "another",
+        None => "none",
+    }
+}
+
+/// A data range in a word.
+fn range_word(found: &Option<Range>) -> &str {
+    match found {
+        Some(Range::Named(name)) => name.as_str(),
+        Some(Range::OneOf(_)) => "literals",
+        Some(_) => "another",
+        None => "none",
+    }
+}
+
+/// An object property in words: whether it is inverse, and its name.
+fn property_words(found: &Option<ObjProp>) -> (&str, &str) {
+    match found {
+        Some(ObjProp::Named(name)) => ("named", name.as_str()),
+        Some(ObjProp::Inverse(name)) => ("inverse", name.as_str()),
+        None => ("none", ""),
+    }
+}
+
+/// An individual in words: whether it is named, and its name or its label.
+fn individual_words(found: &Option<Individual>) -> (&str, &str) {
+    match found {
+        Some(Individual::Named(name)) => ("named", name.as_str()),
+        Some(Individual::Anonymous(label)) => ("anonymous", label.as_str()),
+        None => ("none", ""),
+    }
+}
+
+/// A literal in words: its text, and its tag or its datatype.
+fn literal_words(found: &Option<Literal>) -> (&str, &str) {
+    match found {
+        Some(Literal::Plain(text)) => (text.as_str(), "plain"),
+        Some(Literal::Lang(text, tag)) => (text.as_str(), tag.as_str()),
+        Some(Literal::Typed(text, datatype)) => (text.as_str(), datatype.as_str()),
+        None => ("none", ""),
+    }
+}
+
+/// Whether a prefix stands for this behind the declarations of a text.
+fn stands_for(alloc: Global, text: &[u8], prefix: &str, iri: Option<&str>) -> Result<bool, Fail>
     requires { length text.now < 2 ^ 32 }
 {
     let found = tokens(alloc, text)?;
     let (prefixes, _behind) = read_prefixes(alloc, text, found.list())?;
-    match prefixes.get(prefix) {
-        Some(iri) => Ok(Some(iri.copy(alloc)?)),
-        None => Ok(None),
-    }
+    Ok(match (prefixes.get(prefix), iri) {
+        (Some(found), Some(iri)) => found.as_str() == iri,
+        (None, None) => true,
+        _ => false,
+    })
 }
+
+static CLASSES: [(&str, &str); 2] = [
+    ("owl:Thing", "http://www.w3.org/2002/07/owl#Thing"),
+    ("ObjectComplementOf(<u:A>)", "complement"),
+];
+
+static RANGES: [(&str, &str); 2] = [
+    ("xsd:int", "http://www.w3.org/2001/XMLSchema#int"),
+    ("DataOneOf(\"1\")", "literals"),
+];
+
+static PROPERTIES: [(&str, &str, &str); 2] = [
+    ("<u:p>", "named", "u:p"),
+    ("ObjectInverseOf(<u:p>)", "inverse", "u:p"),
+];
+
+static INDIVIDUALS: [(&str, &str, &str); 2] = [
+    ("<u:a>", "named", "u:a"),
+    ("_:a", "anonymous", "a"),
+];
+
+static LITERALS: [(&str, &str, &str); 3] = [
+    ("\"a\"", "a", "plain"),
+    ("\"a\"@en", "a", "en"),
+    ("\"a\"^^<u:t>", "a", "u:t"),
+];
+
+static PREFIXES: [(&str, Option<&str>); 4] = [
+    ("a", Some("u:")),
+    ("owl", Some("v:")),
+    ("xsd", Some("http://www.w3.org/2001/XMLSchema#")),
+    ("b", None),
+];
 
 #[test]
 fn classes(rt: HostRuntime) -> Result<(), Fail> {
-    let found = class(rt.alloc(), b"owl:Thing")?;
-    assert!(rt;
-        matches!(found, Some(Class::Named(name)) if name.as_str() == "http://www.w3.org/2002/07/owl#Thing")
-    );
-    let found = class(rt.alloc(), b"ObjectComplementOf(<u:A>)")?;
-    assert!(rt; matches!(found, Some(Class::Not(_))));
+    for (text, want) in CLASSES.iter().copied() {
+        assert!(rt; text.len() < 100);
+        let found = class(rt.alloc(), text.as_bytes())?;
+        assert_eq!(rt; class_word(&found), want, "at {text}");
+    }
     Ok(())
 }
 
 #[test]
 fn ranges(rt: HostRuntime) -> Result<(), Fail> {
-    let found = range(rt.alloc(), b"xsd:int")?;
-    assert!(rt;
-        matches!(found, Some(Range::Named(name)) if name.as_str() == "http://www.w3.org/2001/XMLSchema#int")
-    );
-    let found = range(rt.alloc(), b"DataOneOf(\"1\")")?;
-    assert!(rt; matches!(found, Some(Range::OneOf(_))));
+    for (text, want) in RANGES.iter().copied() {
+        assert!(rt; text.len() < 100);
+        let found = range(rt.alloc(), text.as_bytes())?;
+        assert_eq!(rt; range_word(&found), want, "at {text}");
+    }
     Ok(())
 }
 
 #[test]
 fn properties(rt: HostRuntime) -> Result<(), Fail> {
-    let found = property(rt.alloc(), b"<u:p>")?;
-    assert!(rt; matches!(found, Some(ObjProp::Named(name)) if name.as_str() == "u:p"));
-    let found = property(rt.alloc(), b"ObjectInverseOf(<u:p>)")?;
-    assert!(rt; matches!(found, Some(ObjProp::Inverse(name)) if name.as_str() == "u:p"));
+    for (text, first, second) in PROPERTIES.iter().copied() {
+        assert!(rt; text.len() < 100);
+        let found = property(rt.alloc(), text.as_bytes())?;
+        let (word, name) = property_words(&found);
+        assert_eq!(rt; word, first, "at {text}");
+        assert_eq!(rt; name, second, "at {text}");
+    }
     Ok(())
 }
 
 #[test]
 fn individuals(rt: HostRuntime) -> Result<(), Fail> {
-    let found = individual(rt.alloc(), b"<u:a>")?;
-    assert!(rt; matches!(found, Some(Individual::Named(name)) if name.as_str() == "u:a"));
-    let found = individual(rt.alloc(), b"_:a")?;
-    assert!(rt; matches!(found, Some(Individual::Anonymous(label)) if label.as_str() == "a"));
+    for (text, first, second) in INDIVIDUALS.iter().copied() {
+        assert!(rt; text.len() < 100);
+        let found = individual(rt.alloc(), text.as_bytes())?;
+        let (word, name) = individual_words(&found);
+        assert_eq!(rt; word, first, "at {text}");
+        assert_eq!(rt; name, second, "at {text}");
+    }
     Ok(())
 }
 
 #[test]
 fn literals(rt: HostRuntime) -> Result<(), Fail> {
-    let found = literal(rt.alloc(), b"\"a\"")?;
-    assert!(rt; matches!(found, Some(Literal::Plain(text)) if text.as_str() == "a"));
-    let found = literal(rt.alloc(), b"\"a\"@en")?;
-    assert!(rt; matches!(found, Some(Literal::Lang(_, tag)) if tag.as_str() == "en"));
-    let found = literal(rt.alloc(), b"\"a\"^^<u:t>")?;
-    assert!(rt; matches!(found, Some(Literal::Typed(_, datatype)) if datatype.as_str() == "u:t"));
+    for (text, first, second) in LITERALS.iter().copied() {
+        assert!(rt; text.len() < 100);
+        let found = literal(rt.alloc(), text.as_bytes())?;
+        let (word, name) = literal_words(&found);
+        assert_eq!(rt; word, first, "at {text}");
+        assert_eq!(rt; name, second, "at {text}");
+    }
     Ok(())
 }
 
 #[test]
 fn prefixes_of_a_text(rt: HostRuntime) -> Result<(), Fail> {
     let text = b"Prefix(a:=<u:>)Prefix(owl:=<v:>)";
-    let found = stands_for(rt.alloc(), text, "a")?;
-    assert!(rt; matches!(found, Some(iri) if iri.as_str() == "u:"));
-    let found = stands_for(rt.alloc(), text, "owl")?;
-    assert!(rt; matches!(found, Some(iri) if iri.as_str() == "v:"));
-    let found = stands_for(rt.alloc(), text, "b")?;
-    assert!(rt; found.is_none());
+    for (prefix, iri) in PREFIXES.iter().copied() {
+        assert!(rt; stands_for(rt.alloc(), text, prefix, iri)?, "at {prefix}");
+    }
     Ok(())
 }
 
