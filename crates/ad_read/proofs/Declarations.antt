@@ -25,15 +25,15 @@ pub is_text : (ds : List Declared) → Many0 SpellsDeclared ds (text_of ds)
 is_text [] = refl
 is_text (d ∷ ds) = (says.Plain (codes "Prefix") ∷ says.Left ∷ says.Short d.prefix [] ∷ says.Equals ∷ says.Iri d.iri ∷ says.Right ∷ [], text_of ds, refl, refl, is_text ds)
 
-abbrev prefix_in : Text → List ℕ
+abbrev pub prefix_in : Text → List ℕ
 prefix_in (a ∷ b ∷ says.Short prefix local ∷ ts) = prefix
 prefix_in ts = []
 
-abbrev iri_in : Text → List ℕ
+abbrev pub iri_in : Text → List ℕ
 iri_in (a ∷ b ∷ c ∷ d ∷ says.Iri iri ∷ ts) = iri
 iri_in ts = []
 
-abbrev declared_as : List ℕ → List ℕ → Declared
+abbrev pub declared_as : List ℕ → List ℕ → Declared
 declared_as prefix iri = record { prefix = prefix; iri = iri }
 
 none_not_some : {X : Type 0} (x : X) → None ≡ Some x → ⊥

@@ -2,3 +2,4 @@ pub mod Declarations
 pub mod Forms
 pub mod Opening
 pub mod Outcomes
+pub mod Refusals
