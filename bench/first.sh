@@ -1,5 +1,5 @@
 #!/usr/bin/env bash
-# Times `module bottom` of the built program on documents of the first form: seconds and peak memory of each.
+# Times `module bottom` of the built program on documents of class axioms: seconds and peak memory of each.
 set -eu
 top="$(cd "$(dirname "$0")/.." && pwd)"
 program="$top/crates/owlad/out/owlad"

@@ -23,13 +23,15 @@ use Rattle.ad_run.proofs.RunLemmas.{not_both}
 split_of : (bounds : Bounds) (ending : Ending) (a b : Flow) (items : List Item) (replies : List Reply) (text : List ℕ) (left : Option (List ℕ)) → a.left ≡ Some text → b.left ≡ left → IsSome left
     → AreItems bounds 0 items → (e : EndsAs bounds ending (length items) a b items replies) → (rest : List ℕ) × Items bounds 0 text items ending e.taken rest
 split_of bounds ending a b items replies text None told is some are e = absurd (cc)
-split_of bounds ending a b items replies text (Some rest) told is some are e =
-    (rest, record {
-      items_are = are;
-      closes = subst (Closes bounds ending e.taken) is e.closes;
-      in_time = subst (InTime bounds ending) (let whole : length items ≡ 0 + length items = omega arith in whole) e.in_time;
-      whole = (let lost : Loses (Some text) (Some rest) (items_bytes items ++ e.taken) = subst (λ l. Loses l (Some rest) (items_bytes items ++ e.taken)) told (subst (λ l. Loses a.left l (items_bytes items ++ e.taken)) is e.lost) in lost ∙ append_assoc (items_bytes items) e.taken rest);
-    })
+split_of bounds ending a b items replies text (Some rest) told is some are e = (
+  rest,
+  record {
+    items_are = are;
+    closes = subst (Closes bounds ending e.taken) is e.closes;
+    in_time = subst (InTime bounds ending) (let whole : length items ≡ 0 + length items = omega arith in whole) e.in_time;
+    whole = (let lost : Loses (Some text) (Some rest) (items_bytes items ++ e.taken) = subst (λ l. Loses l (Some rest) (items_bytes items ++ e.taken)) told (subst (λ l. Loses a.left l (items_bytes items ++ e.taken)) is e.lost) in lost ∙ append_assoc (items_bytes items) e.taken rest);
+  },
+)
 
 module _ (words : List (List ℕ)) (a b : Flow) (text : List ℕ) (told : a.left ≡ Some text) (tells : IsSome b.left) (s : Split) (is : Items (bounds_of standard) 0 text s.items s.ending s.taken s.left) where
   ending_is : (ending : Ending) (items : List Item) (replies : List Reply) → AreItems (bounds_of standard) 0 items → EndsAs (bounds_of standard) ending (length items) a b items replies → ending ≡ s.ending
@@ -75,4 +77,3 @@ module _ (words : List (List ℕ)) (a b : Flow) (text : List ℕ) (told : a.left
   session_code ReadFault ran cause some reads writes = absurd (reads (cause.read_fault refl))
   session_code WriteFault ran cause some reads writes = absurd (writes (cause.write_fault refl))
   session_code Memory ran cause some reads writes = inr refl
-

@@ -9,27 +9,16 @@ use Rattle.ad_session.specs.declared.ends.End.{End}
 use Rattle.ad_session.specs.declared.ends.End.TheVariants as ends
 use Rattle.ad_tree.specs.declared.entities.Entity.{Entity}
 use Rattle.ad_run.specs.Command.{Command, IsCommand, of_module, of_script}
-use Rattle.ad_run.specs.Output.{IsOutput, IsNoOntology, standard}
-
--- how many bytes a document has at most
-abbrev pub payload_limit : ℕ
-payload_limit = 33554432
-
--- the source was read to its end, and had this text, which isn't too long
-pub record IsRead (left left' : Option (List ℕ)) (text : List ℕ) : Type 0 where
-  pub lost : Loses left left' text
-  pub ended : IsAtEnd left'
-  pub short : length text ≤ payload_limit
+use Rattle.ad_reply.specs.declared.refusal.Refusal.{Refusal}
+use Rattle.ad_run.specs.Causes.{IsUnfit}
+use Rattle.ad_run.specs.Inputs.{IsRead}
+use Rattle.ad_run.specs.Output.{IsOutput, standard}
 
 -- the source was read to its end, and the module of its text is the output
 pub record Finds (kind : Kind) (seed : List Entity) (a b : Flow) (output : List ℕ) : Type 0 where
   pub text : List ℕ
   pub read : IsRead a.left b.left text
   pub is_output : IsOutput kind seed text output
-
--- the source was read to its end and has no ontology within the limits, or it gave more bytes than a document may have
-abbrev pub IsUnfit : Flow → Flow → Type 0
-IsUnfit a b = ((text : List ℕ) × IsRead a.left b.left text × IsNoOntology text) ⊎ LosesExactly a.left b.left (payload_limit + 1)
 
 -- a session of the first edition was run to such an end
 pub record RunsSession (P : End → Type 0) (a b : Flow) : Type 0 where
@@ -63,9 +52,14 @@ abbrev pub Does : Command → Flow → Flow → Type 0
 Does (of_module kind seed) a b = (output : List ℕ) × Finds kind seed a b output × Gains a.written b.written output
 Does (of_script workers) a b = RunsSession IsClosing a b
 
+-- its input was refused for this cause, and nothing was written
+abbrev pub RefusesFor : Refusal → Command → Flow → Flow → Type 0
+RefusesFor refusal (of_module kind seed) a b = IsUnfit refusal a b × Gains a.written b.written []
+RefusesFor refusal (of_script workers) a b = ⊥
+
 -- its input was refused: nothing was written, or the replies up to the break
 abbrev pub Refuses : Command → Flow → Flow → Type 0
-Refuses (of_module kind seed) a b = IsUnfit a b × Gains a.written b.written []
+Refuses (of_module kind seed) a b = (refusal : Refusal) × RefusesFor refusal (of_module kind seed) a b
 Refuses (of_script workers) a b = RunsSession IsBreak a b
 
 -- the source failed: nothing was written, or the replies to the requests that were read whole

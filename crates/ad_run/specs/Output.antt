@@ -10,7 +10,7 @@ use Rattle.ad_tree.specs.declared.edits.Op.{Op}
 use Rattle.ad_tree.specs.declared.entities.Entity.{Entity}
 use Rattle.ad_edition.specs.Apply.{applied}
 use Rattle.ad_edition.specs.Limit.{passed}
-use Rattle.ad_read.specs.FirstForm.{SpellsDocument}
+use Rattle.ad_read.specs.Texts.{IsDocument}
 use Rattle.ad_sweep.specs.ModuleDocument.{IsModuleDocumentOf}
 use Rattle.ad_write.specs.Canonical.{canon_document}
 
@@ -21,7 +21,7 @@ standard = record { axioms = 16384; entities = 65536; bytes = 33554432; depth = 
 -- the text is a document, and this is its ontology, which is within the limits
 pub record IsOntology (text : List ℕ) (ontology : List Noted) : Type 0 where
   pub ops : List Op
-  pub spelled : SpellsDocument text ops
+  pub spelled : IsDocument standard.depth text ops
   pub applied_are : ontology ≡ applied [] ops
   pub within : passed standard 0 ontology ≡ None
 

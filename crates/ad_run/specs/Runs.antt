@@ -8,7 +8,7 @@ use Rattle.ad_tree.specs.declared.entities.Entity.{Entity}
 use Rattle.ad_run.specs.declared.status.Status.{Status}
 use Rattle.ad_run.specs.declared.status.Status.TheVariants.{Done, Usage, Refused, Cut, TooLong, Spent, ReadFault, WriteFault, Memory}
 use Rattle.ad_run.specs.Command.{IsCommand, IsNoCommand, of_module, of_script}
-use Rattle.ad_run.specs.Ends.{IsDone, IsRefused, IsUnread, IsCutOff, IsWanting}
+use Rattle.ad_run.specs.Ends.{Ran, RefusesFor, IsDone, IsRefused, IsUnread, IsCutOff, IsWanting}
 
 -- the words are those of some module
 pub record IsSomeModule (words : List (List ℕ)) : Type 0 where
@@ -31,7 +31,7 @@ IsNoScript words = (workers : Option ℕ) → IsCommand words (of_script workers
 abbrev pub EndsSo : List (List ℕ) → Flow → Flow → Status → Type 0
 EndsSo words a b Done = IsDone words a b
 EndsSo words a b Usage = IsNoCommand words
-EndsSo words a b Refused = IsRefused words a b
+EndsSo words a b (Refused refusal) = Ran words (RefusesFor refusal) a b
 EndsSo words a b Cut = IsRefused words a b
 EndsSo words a b TooLong = IsRefused words a b
 EndsSo words a b Spent = IsRefused words a b

@@ -10,7 +10,7 @@ use Rattle.ad_run.specs.Ends.{RunsSession, IsClosing, IsBreak}
 abbrev pub ScriptEnds : Flow → Flow → Status → Type 0
 ScriptEnds a b Done = RunsSession IsClosing a b
 ScriptEnds a b Usage = ⊥
-ScriptEnds a b Refused = ⊥
+ScriptEnds a b (Refused refusal) = ⊥
 ScriptEnds a b Cut = RunsSession IsBreak a b
 ScriptEnds a b TooLong = RunsSession IsBreak a b
 ScriptEnds a b Spent = RunsSession IsBreak a b

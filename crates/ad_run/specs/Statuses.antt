@@ -8,7 +8,7 @@ use Rattle.ad_run.specs.declared.status.Status.TheVariants.{Done, Usage, Refused
 abbrev pub code_of : Status → ℕ
 code_of Done = 0
 code_of Usage = 2
-code_of Refused = 3
+code_of (Refused refusal) = 3
 code_of Cut = 3
 code_of TooLong = 3
 code_of Spent = 3

@@ -2,9 +2,11 @@
 #![tactic(auto)]
 
 pub use ad_sweep::sweep;
+pub use laws::document_laws;
 pub use run::run_once;
 
 mod command;
+mod laws;
 mod module;
 mod ontology;
 mod run;

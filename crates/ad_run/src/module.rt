@@ -24,7 +24,7 @@ pub(crate) fn answer_module<K: Sink>(
 {
     let edition = match edition_of(alloc, text) {
         Ok(edition) => edition,
-        Err(Unread::Refused) => return Status::Refused,
+        Err(Unread::Refused(cause)) => return Status::Refused(cause),
         Err(Unread::Memory) => return Status::Memory,
     };
     let found = match document_of(alloc, side, edition.axioms(), seed) {

@@ -1,16 +1,18 @@
 ghost use Rattle.std.specs.Prelude.{◌<◌, ◌^◌, length, IfOk, IsErrOf};
-ghost use Rattle.ad_run.specs.Output.{IsOntology, IsNoOntology};
+ghost use Rattle.ad_run.specs.Causes.{IsUnfitFor};
+ghost use Rattle.ad_run.specs.Output.{IsOntology};
 
 use ad_base::Limits;
 use ad_edition::{Edition, Refused};
 use ad_read::{ReadRefused, read_document};
+use ad_reply::Refusal;
 use std::alloc::Global;
 
 /// Why a text gave no ontology.
-#[derive(Clone, Copy, Debug, PartialEq, Eq, Hash)]
+#[derive(Clone, Copy, Debug, PartialEq, Eq)]
 pub(crate) enum Unread {
-    /// It is no document of an ontology within the limits.
-    Refused,
+    /// It is no document of an ontology within the limits, for this cause.
+    Refused(Refusal),
     Memory,
 }
 
@@ -18,16 +20,27 @@ pub(crate) enum Unread {
 pub(crate) fn edition_of(alloc: Global, text: &[u8]) -> Result<Edition, Unread>
     requires { length text.now < 2 ^ 32 }
     ensures read { IfOk result (λ edition. IsOntology text.now edition.shown.axioms) }
-    ensures refused { IsErrOf result Unread.Refused → IsNoOntology text.now }
+    ensures refused { (refusal : Refusal) → IsErrOf result (Unread.Refused refusal) → IsUnfitFor text.now refusal }
 {
-    let batch = match read_document(alloc, text) {
+    let limits = Limits::standard();
+    let batch = match read_document(alloc, text, &limits) {
         Ok(batch) => batch,
-        Err(ReadRefused::OtherForm) => return Err(Unread::Refused),
         Err(ReadRefused::Memory) => return Err(Unread::Memory),
+        Err(cause) => return Err(Unread::Refused(Refusal::Text(cause))),
     };
-    match Edition::empty(alloc, Limits::standard()).begin(alloc, &batch) {
+    match Edition::empty(alloc, limits).begin(alloc, &batch) {
         Ok(draft) => Ok(draft.finish()),
-        Err(Refused::Limit { .. }) => Err(Unread::Refused),
+        Err(
+            Refused::Limit {
+                edition,
+                which,
+                count,
+            },
+        ) => Err(Unread::Refused(Refusal::Limit {
+            edition,
+            which,
+            count,
+        })),
         Err(Refused::Memory) => Err(Unread::Memory),
     }
 }

@@ -4,7 +4,9 @@ ghost use Rattle.ad_items.specs.Items.{Items, Split, bounds_of};
 ghost use Rattle.ad_session.specs.Flows.{flow};
 ghost use Rattle.ad_tree.specs.declared.axioms.Noted.{Noted};
 ghost use Rattle.ad_run.specs.Command.{IsNoCommand};
-ghost use Rattle.ad_run.specs.Ends.{IsDone, IsRefused, IsUnread, IsCutOff, IsWanting, payload_limit};
+ghost use Rattle.ad_run.specs.Ends.{IsDone, IsRefused, IsUnread, IsCutOff, IsWanting};
+ghost use Rattle.ad_run.specs.Inputs.{payload_limit};
+ghost use Rattle.ad_run.specs.Notes.{IsTold};
 ghost use Rattle.ad_run.specs.Output.{IsOntology, IsNoOntology, standard};
 ghost use Rattle.ad_run.specs.Runs.{EndsSo, RunCause, IsSomeModule, IsSomeScript, code_at};
 ghost use Rattle.ad_run.specs.Statuses.{IsStatus};
@@ -14,12 +16,20 @@ use crate::command::{Asked, named_seed, read_words};
 use crate::module::answer_module;
 use crate::script::run_script;
 use crate::status::Status;
-use ad_base::{Side, Word};
+use ad_base::{Side, Which, Word};
 use ad_io::{ReadEnd, Sink, Source, read_to_end};
+use ad_reply::Refusal;
 use std::alloc::Global;
 
 // How many bytes a document has at most.
 const PAYLOAD: u64 = 33_554_432;
+
+// The refusal of a source with more.
+const TOO_LONG: Refusal = Refusal::Limit {
+    edition: 0,
+    which: Which::Payload,
+    count: PAYLOAD + 1,
+};
 
 /// Does what the words ask for: reads a document, or the requests of a session, from the source, writes to the sink,
 /// and tells a status other than 0 on the notes in a line. It always returns, with the exit status.
@@ -41,8 +51,8 @@ pub fn run_once<S: Source, K: Sink, N: Sink>(
     ensures no_command { IsNoCommand words.now → result ≡ 2 }
     ensures untouched { result ≡ 2 → (source.new ≡ source.old) × (sink.new ≡ sink.old) }
 
-    // 3: for a module, the source was read to its end and has no ontology within the limits, or it is too long, and
-    // nothing is written. The input of a session was cut or too long, or had as many requests as one may have, and the
+    // 3: for a module, the source was read to its end and is no document of an ontology within the limits, or it is too
+    // long, and nothing is written. The input of a session was cut or too long, or had as many requests as one may have, and the
     // sink has exactly the replies up to there.
     ensures refused { result ≡ 3 → IsRefused words.now (flow (S.left source.old) (S.faults source.old) (K.written sink.old) (K.faults sink.old)) (flow (S.left source.new) (S.faults source.new) (K.written sink.new) (K.faults sink.new)) }
 
@@ -61,12 +71,16 @@ pub fn run_once<S: Source, K: Sink, N: Sink>(
     ensures complete { (text : List ℕ) (ontology : List Noted) → IsSomeModule words.now → S.left source.old ≡ Some text → IsSome (S.left source.new) → length text ≤ payload_limit → IsOntology text ontology → NotRisen (S.faults source.old) (S.faults source.new) → NotRisen (K.faults sink.old) (K.faults sink.new) → (result ≡ 0) ⊎ (result ≡ 6) }
     ensures refuses { (text : List ℕ) → IsSomeModule words.now → S.left source.old ≡ Some text → IsSome (S.left source.new) → IsNoOntology text ⊎ (payload_limit < length text) → NotRisen (S.faults source.old) (S.faults source.new) → NotRisen (K.faults sink.old) (K.faults sink.new) → (result ≡ 3) ⊎ (result ≡ 6) }
 
+    // The notes get exactly the line of the status, which for a refused document names the cause that it has, or a front
+    // of the line where they fail; and nothing at 0.
+    ensures told { IsTold words.now (flow (S.left source.old) (S.faults source.old) (K.written sink.old) (K.faults sink.old)) (flow (S.left source.new) (S.faults source.new) (K.written sink.new) (K.faults sink.new)) result (N.written notes.old) (N.written notes.new) (N.faults notes.old) (N.faults notes.new) }
+
     // And where they are those of a session, the status is 0 exactly where the input closes it, and else 3, unless
     // memory is wanting before its first request.
     ensures session { (text : List ℕ) (s : Split) → IsSomeScript words.now → S.left source.old ≡ Some text → IsSome (S.left source.new) → Items (bounds_of standard) 0 text s.items s.ending s.taken s.left → NotRisen (S.faults source.old) (S.faults source.new) → NotRisen (K.faults sink.old) (K.faults sink.new) → (result ≡ code_at s.ending) ⊎ (result ≡ 6) }
 {
     let status = run(alloc, words, source, sink);
-    status.tell(notes);
+    let _wrote = status.tell(notes);
     status.code()
 }
 
@@ -103,7 +117,7 @@ fn run_module<S: Source, K: Sink>(
     let text = match read_to_end(alloc, source, PAYLOAD) {
         Ok(text) => text,
         Err(ReadEnd::Failed) => return Status::ReadFault,
-        Err(ReadEnd::Long) => return Status::Refused,
+        Err(ReadEnd::Long) => return Status::Refused(TOO_LONG),
         Err(ReadEnd::Memory) => return Status::Memory,
     };
     answer_module(alloc, side, &seed, text.as_slice(), sink)

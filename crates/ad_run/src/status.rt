@@ -1,17 +1,21 @@
-ghost use Rattle.std.specs.Prelude.{◌≡◌};
+ghost use Rattle.std.specs.Prelude.{◌≡◌, ◌∷◌, codes};
+ghost use Rattle.ad_io.specs.Sink.{Puts, PutCause};
+ghost use Rattle.ad_reply.specs.Replies.{cause_words, refused};
+ghost use Rattle.ad_run.specs.Notes.{note, note_of};
 ghost use Rattle.ad_run.specs.Statuses.{code_of};
 
-use ad_io::{Sink, put_all};
+use ad_io::{Sink, Wrote, put_all};
+use ad_reply::{Refusal, explain};
 
 /// How a run ends.
-#[derive(Clone, Copy, Debug, PartialEq, Eq, Hash)]
+#[derive(Clone, Copy, Debug, PartialEq, Eq)]
 pub(crate) enum Status {
     /// All was written.
     Done,
     /// The words are those of no command.
     Usage,
-    /// The document was refused.
-    Refused,
+    /// The document was refused for this cause.
+    Refused(Refusal),
     /// The input of the session was cut.
     Cut,
     /// A line of the session, or its payload, is too long.
@@ -34,26 +38,39 @@ impl Status {
         match self {
             Status::Done => 0,
             Status::Usage => 2,
-            Status::Refused | Status::Cut | Status::TooLong | Status::Spent => 3,
+            Status::Refused(_) | Status::Cut | Status::TooLong | Status::Spent => 3,
             Status::ReadFault => 4,
             Status::WriteFault => 5,
             Status::Memory => 6,
         }
     }
 
-    /// Tells the status in a line; a sink of notes that fails changes nothing else.
-    pub(crate) fn tell<N: Sink>(self, notes: &mut N) {
-        let note: &[u8] = match self {
-            Status::Done => return,
-            Status::Usage => b"owlad: usage\n",
-            Status::Refused => b"owlad: not of this form\n",
-            Status::Cut => b"owlad: cut\n",
-            Status::TooLong => b"owlad: too long\n",
-            Status::Spent => b"owlad: spent\n",
-            Status::ReadFault => b"owlad: read fault\n",
-            Status::WriteFault => b"owlad: write fault\n",
-            Status::Memory => b"owlad: memory\n",
-        };
-        let _ = put_all(notes, note);
+    /// Tells the status in a line.
+    pub(crate) fn tell<N: Sink>(self, notes: &mut N) -> Wrote
+        ensures bytes { Puts (N.written notes.old) (N.written notes.new) result (note_of self) }
+        ensures cause { PutCause (N.faults notes.old) (N.faults notes.new) result }
+    {
+        match self {
+            Status::Done => Wrote::All,
+            Status::Usage => put_all(notes, b"owlad: usage\n"),
+            Status::Refused(refusal) => tell_refusal(refusal, notes),
+            Status::Cut => put_all(notes, b"owlad: cut\n"),
+            Status::TooLong => put_all(notes, b"owlad: too long\n"),
+            Status::Spent => put_all(notes, b"owlad: spent\n"),
+            Status::ReadFault => put_all(notes, b"owlad: read fault\n"),
+            Status::WriteFault => put_all(notes, b"owlad: write fault\n"),
+            Status::Memory => put_all(notes, b"owlad: memory\n"),
+        }
+    }
+}
+
+// Tells why a document is refused.
+fn tell_refusal<N: Sink>(refusal: Refusal, notes: &mut N) -> Wrote
+    ensures bytes { Puts (N.written notes.old) (N.written notes.new) result (note (codes "refused" ∷ cause_words (refused refusal))) }
+    ensures cause { PutCause (N.faults notes.old) (N.faults notes.new) result }
+{
+    match put_all(notes, b"owlad: refused ") {
+        Wrote::All => explain(refusal, notes),
+        Wrote::Failed => Wrote::Failed,
     }
 }

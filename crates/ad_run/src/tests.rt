@@ -263,9 +263,25 @@ fn breaks_of_a_session(rt: HostRuntime) -> Result<(), Fail> {
     let script = ["script"];
     let long = "owlad: too long\n";
     expect(&rt, alloc, &script, "EXPOR", 3, "", "owlad: cut\n")?;
-    expect(&rt, alloc, &script, "EXPORT\nEDIT 9\n+Sub", 3, "OK 0 12\nOntology(\n)\n", "owlad: cut\n")?;
+    expect(
+        &rt,
+        alloc,
+        &script,
+        "EXPORT\nEDIT 9\n+Sub",
+        3,
+        "OK 0 12\nOntology(\n)\n",
+        "owlad: cut\n",
+    )?;
     expect(&rt, alloc, &script, "EDIT 33554433\n", 3, "", long)?;
-    expect(&rt, alloc, &script, "EDIT 05\nSTAT\nQUIT\n", 0, "NO 10\nNO 10\n", "")?;
+    expect(
+        &rt,
+        alloc,
+        &script,
+        "EDIT 05\nSTAT\nQUIT\n",
+        0,
+        "NO 10\nNO 10\n",
+        "",
+    )?;
     Ok(())
 }
 
@@ -276,7 +292,15 @@ fn words_of_a_session(rt: HostRuntime) -> Result<(), Fail> {
         let words = ["script", "--workers", count];
         expect(&rt, alloc, &words, EXCHANGE, 2, "", "owlad: usage\n")?;
     }
-    expect(&rt, alloc, &["script", "4"], EXCHANGE, 2, "", "owlad: usage\n")?;
+    expect(
+        &rt,
+        alloc,
+        &["script", "4"],
+        EXCHANGE,
+        2,
+        "",
+        "owlad: usage\n",
+    )?;
     Ok(())
 }
 

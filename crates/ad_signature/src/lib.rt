@@ -11,3 +11,5 @@ mod numbers;
 mod refused;
 mod spare;
 mod symbols;
+#[cfg(test)]
+mod tests;
