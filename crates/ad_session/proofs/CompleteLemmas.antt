@@ -1,5 +1,5 @@
 -- What can be answered is answered.
-use Rattle.std.proofs.Common.{◌≡◌, ◌≢◌, inl, inr, ℕ, ◌+◌, List, [], ◌∷◌, ◌++◌, Option, None, Some, length, sym, ◌∙◌, ap, subst}
+use Rattle.std.proofs.Common.{◌≡◌, inl, inr, ◌+◌, List, [], ◌∷◌, ◌++◌, Option, None, Some, length, sym, ◌∙◌, ap, subst}
 use Rattle.ad_base.specs.declared.limits.Kind.TheVariants as kinds
 use Rattle.ad_base.specs.declared.limits.Side.TheVariants as sides
 use Rattle.ad_request.specs.declared.request.Request.{Request}
@@ -12,13 +12,11 @@ use Rattle.ad_edition.specs.Limit.{Passed, passed}
 use Rattle.ad_grammar.specs.Faults as forms
 use Rattle.ad_grammar.specs.Texts.{SpellsEdit, SpellsSeed}
 use Rattle.ad_read.specs.Laws.{SpellsOnce, IsNotRefused, IsRefusedOnce}
-use Rattle.ad_read.specs.declared.texts.ReadRefused.{ReadRefused}
-use Rattle.ad_read.specs.declared.texts.ReadRefused.TheVariants.{Memory}
 use Rattle.ad_reply.specs.Bodies.{IsBody, IsModuleDocument}
 use Rattle.ad_reply.specs.Replies.{answered, limited, unread_text, counts_body}
 use Rattle.ad_session.specs.Asked.{IsUnread, TakesMemory, SpellsBatch}
 use Rattle.ad_session.specs.Machines as machines
-use Rattle.ad_session.specs.Machines.{MachineAnswers, entry_of}
+use Rattle.ad_session.specs.Machines.{entry_of}
 use Rattle.ad_session.specs.Complete.{LinesAreRefused, ExportIsAnswered, ModuleIsAnswered, EditIsMade, EditIsRefused, TextIsRefused}
 
 same_asked : (asked : Option Request) (r q : Request) → asked ≡ Some r → asked ≡ Some q → r ≡ q

@@ -19,7 +19,7 @@ use Rattle.ad_session.specs.Steps.{Steps}
 use Rattle.ad_session.specs.Says as says
 use Rattle.ad_session.specs.Says.{Says}
 use Rattle.ad_session.specs.Machines as machines
-use Rattle.ad_session.specs.Machines.{MachineAnswers, MachineRun, entry_of}
+use Rattle.ad_session.specs.Machines.{MachineAnswers, MachineRun}
 use Rattle.ad_session.specs.Turns.{outcome_reply}
 
 pub front_itself : (log : List Logged) → IsFront log log

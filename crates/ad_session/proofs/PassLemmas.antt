@@ -9,9 +9,9 @@ use Rattle.ad_edition.proofs.LogLemmas.{count_of-append, count_of-one}
 use Rattle.ad_reply.specs.Replies.{Reply}
 use Rattle.ad_session.specs.Says as says
 use Rattle.ad_session.specs.Answers as answers
-use Rattle.ad_session.specs.Answers.{Answers, Pass, pass, SessionRun}
+use Rattle.ad_session.specs.Answers.{Answers, Pass, pass}
 use Rattle.ad_session.specs.Machines as machines
-use Rattle.ad_session.specs.Machines.{MachineAnswers, MachineRun, entry_of}
+use Rattle.ad_session.specs.Machines.{MachineAnswers, entry_of}
 use Rattle.ad_session.specs.Laws.{IsPassOf, MachinesRunAsSessions}
 use Rattle.ad_session.proofs.MachineLemmas.{front_on, front_itself, front_pushed}
 

@@ -20,7 +20,6 @@ use Rattle.ad_write.specs.Canonical.{canon_document}
 use Rattle.ad_reply.specs.Replies.{answered, no_memory, unread_text, shut, refused, reply_bytes}
 use Rattle.ad_session.specs.Asked.{IsQuery, TakesMemory, IsUnread}
 use Rattle.ad_session.specs.Says as says
-use Rattle.ad_session.specs.Says.{Says}
 use Rattle.ad_session.specs.Turns.{Speaks, PutsModuleOrRefuses, refusal_of}
 
 -- the edition at hand is that of the log entered
