@@ -1,5 +1,5 @@
 -- The causes for which documents are refused.
-use Rattle.std.proofs.Common.{◌≡◌, ℕ, List, [], refl, sym, ◌∙◌, ap, subst}
+use Rattle.std.proofs.Common.{◌≡◌, ℕ, List, [], sym, ◌∙◌, ap, subst}
 use Rattle.std.specs.Prelude.{Option, Some, None, ◌≢◌}
 use Rattle.ad_base.specs.declared.limits.Limits.{Limits}
 use Rattle.ad_base.specs.declared.limits.Which.{Which}
@@ -15,12 +15,10 @@ use Rattle.ad_read.specs.Texts.{IsDocument, SpellsAdditions}
 use Rattle.ad_read.specs.declared.texts.ReadRefused.{ReadRefused}
 use Rattle.ad_read.specs.declared.texts.ReadRefused.TheVariants as causes
 use Rattle.ad_read.proofs.Outcomes.{documents, text_once, text_refused}
-use Rattle.ad_reply.specs.declared.refusal.Refusal.{Refusal}
 use Rattle.ad_reply.specs.declared.refusal.Refusal.TheVariants as refusals
-use Rattle.ad_tree.specs.declared.axioms.Noted.{Noted}
 use Rattle.ad_tree.specs.declared.edits.Op.{Op}
 use Rattle.ad_run.specs.Causes.{IsUnfitFor, HasOneCause, IsOntologyOrUnfit}
-use Rattle.ad_run.specs.Output.{IsOntology, standard}
+use Rattle.ad_run.specs.Output.{standard}
 
 some_same : (p q : Passed) → Some p ≡ Some q → p ≡ q
 some_same p q e = cc

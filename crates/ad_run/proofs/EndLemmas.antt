@@ -1,11 +1,9 @@
 -- How a run ends, by how a text was answered, or a session ended.
-use Rattle.std.proofs.Common.{◌≡◌, ◌⊎◌, inl, inr, ℕ, List, [], refl, ◌≤◌, subst}
-use Rattle.std.specs.Prelude.{Some}
+use Rattle.std.proofs.Common.{◌≡◌, inl, ℕ, List, [], refl, ◌≤◌, subst}
 use Rattle.ad_base.specs.declared.limits.Side.{Side}
 use Rattle.ad_base.specs.declared.limits.Side.TheVariants as sides
 use Rattle.ad_base.specs.declared.limits.Limits.{Limits}
 use Rattle.ad_edition.specs.Log.{Logged}
-use Rattle.ad_io.specs.Flow.{Rose}
 use Rattle.ad_session.specs.Flows.{Flow}
 use Rattle.ad_session.specs.Ends.{SessionIs}
 use Rattle.ad_session.specs.declared.ends.End.{End}
@@ -14,7 +12,6 @@ use Rattle.ad_tree.specs.declared.entities.Entity.{Entity}
 use Rattle.ad_run.specs.declared.status.Status.{Status}
 use Rattle.ad_run.specs.declared.status.Status.TheVariants.{Done, Usage, Refused, Cut, TooLong, Spent, ReadFault, WriteFault, Memory}
 use Rattle.ad_run.specs.Statuses.{status_of}
-use Rattle.ad_run.specs.Words.{module_side}
 use Rattle.ad_run.specs.Command.{IsCommand, kind_of, of_module, of_script}
 use Rattle.ad_run.specs.Output.{IsModuleDocument, IsOutput, standard}
 use Rattle.ad_run.specs.Inputs.{IsRead}
@@ -48,9 +45,9 @@ module _ (a b : Flow) (log : List Logged) where
   ended : (e : End) → SessionIs standard 0 e a b [] log → ScriptEnds a b (status_of e)
   ended ends.Quit s = record { end = ends.Quit; fits = tt; log = log; session = s }
   ended ends.Closed s = record { end = ends.Closed; fits = tt; log = log; session = s }
-  ended ends.Cut s = record { end = ends.Cut; fits = tt; log = log; session = s }
-  ended ends.TooLong s = record { end = ends.TooLong; fits = tt; log = log; session = s }
-  ended ends.Spent s = record { end = ends.Spent; fits = tt; log = log; session = s }
+  ended ends.Cut s = record { end = ends.Cut; fits = refl; log = log; session = s }
+  ended ends.TooLong s = record { end = ends.TooLong; fits = refl; log = log; session = s }
+  ended ends.Spent s = record { end = ends.Spent; fits = refl; log = log; session = s }
   ended ends.ReadFault s = record { end = ends.ReadFault; fits = refl; log = log; session = s }
   ended ends.WriteFault s = record { end = ends.WriteFault; fits = refl; log = log; session = s }
 

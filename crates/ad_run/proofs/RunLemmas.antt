@@ -2,10 +2,12 @@
 use Rattle.std.proofs.Common.{◌≡◌, ◌⊎◌, inl, inr, ℕ, ◌+◌, ◌≤◌, ◌<◌, List, [], ◌++◌, length, get_or, codes, refl, sym, ◌∙◌, ap, subst, arith, length-append}
 use Rattle.std.specs.Prelude.{Option, None, Some, IsSome}
 use Rattle.std.proofs.lemmas.List.{append-nil}
-use Rattle.ad_io.specs.Flow.{Loses, LosesExactly, NotRisen}
+use Rattle.ad_io.specs.Flow.{LosesExactly, NotRisen}
 use Rattle.ad_base.specs.declared.limits.Kind.{Kind}
 use Rattle.ad_base.specs.declared.limits.Kind.TheVariants as modules
 use Rattle.ad_session.specs.Flows.{Flow}
+use Rattle.ad_session.specs.declared.ends.End.{End}
+use Rattle.ad_session.specs.declared.ends.End.TheVariants as ends
 use Rattle.ad_tree.specs.declared.axioms.Noted.{Noted}
 use Rattle.ad_tree.specs.declared.entities.Entity.{Entity}
 use Rattle.ad_run.specs.declared.status.Status.{Status}
@@ -16,7 +18,7 @@ use Rattle.ad_run.specs.Output.{IsOntology, IsNoOntology, IsOutput}
 use Rattle.ad_reply.specs.declared.refusal.Refusal.{Refusal}
 use Rattle.ad_run.specs.Causes.{IsUnfitFor}
 use Rattle.ad_run.specs.Inputs.{IsRead, payload_limit}
-use Rattle.ad_run.specs.Ends.{Does, RefusesFor, Refuses, IsRefused}
+use Rattle.ad_run.specs.Ends.{Does, RefusesFor, Refuses, BreaksSo, IsBreak, IsRefused}
 use Rattle.ad_run.specs.Runs.{EndsSo, RunCause, IsSomeModule}
 use Rattle.ad_run.proofs.CauseLemmas.{apart}
 
@@ -60,9 +62,10 @@ module _ (words : List (List ℕ)) (a b : Flow) (text : List ℕ) (told : a.left
   ]
   unfit_text refusal (of_script workers) m is h = absurd h
 
-  broken_text : (command : Command) (m : IsSomeModule words) → IsCommand words command → Refuses command a b → IsNoOntology text ⊎ (payload_limit < length text)
-  broken_text (of_module kind seed) m is h = unfit_text h.0 (of_module kind seed) m is h.1
-  broken_text (of_script workers) m is h = absurd (not_both words m.kind m.seed workers m.commanded is)
+  -- and no session was broken off
+  no_break : (end : End) (command : Command) → IsSomeModule words → IsCommand words command → BreaksSo end command a b → ⊥
+  no_break end (of_module kind seed) m is h = h
+  no_break end (of_script workers) m is h = not_both words m.kind m.seed workers m.commanded is
 
   fits : (ontology : List Noted) → length text ≤ payload_limit → IsOntology text ontology → IsNoOntology text ⊎ (payload_limit < length text) → ⊥
   fits ontology short found (inl none) = none ontology found
@@ -80,45 +83,49 @@ module _ (words : List (List ℕ)) (a b : Flow) (text : List ℕ) (told : a.left
   pub answered : (s : Status) (ontology : List Noted) → EndsSo words a b s → RunCause a b s
       → IsSomeModule words → length text ≤ payload_limit → IsOntology text ontology → NotRisen a.read_faults b.read_faults → NotRisen a.write_faults b.write_faults
       → (code_of s ≡ 0) ⊎ (code_of s ≡ 6)
-  answered Done ontology ends cause some short found reads writes = inl refl
-  answered Usage ontology ends cause some short found reads writes = absurd (ends (of_module some.kind some.seed) some.commanded)
-  answered (Refused refusal) ontology ends cause some short found reads writes = absurd (fits ontology short found (unfit_text refusal ends.command some ends.commanded ends.ran))
-  answered Cut ontology ends cause some short found reads writes = absurd (fits ontology short found (broken_text ends.command some ends.commanded ends.ran))
-  answered TooLong ontology ends cause some short found reads writes = absurd (fits ontology short found (broken_text ends.command some ends.commanded ends.ran))
-  answered Spent ontology ends cause some short found reads writes = absurd (fits ontology short found (broken_text ends.command some ends.commanded ends.ran))
-  answered ReadFault ontology ends cause some short found reads writes = absurd (reads (cause.read_fault refl))
-  answered WriteFault ontology ends cause some short found reads writes = absurd (writes (cause.write_fault refl))
-  answered Memory ontology ends cause some short found reads writes = inr refl
+  answered Done ontology ran cause some short found reads writes = inl refl
+  answered Usage ontology ran cause some short found reads writes = absurd (ran (of_module some.kind some.seed) some.commanded)
+  answered (Refused refusal) ontology ran cause some short found reads writes = absurd (fits ontology short found (unfit_text refusal ran.command some ran.commanded ran.ran))
+  answered Cut ontology ran cause some short found reads writes = absurd (no_break ends.Cut ran.command some ran.commanded ran.ran)
+  answered TooLong ontology ran cause some short found reads writes = absurd (no_break ends.TooLong ran.command some ran.commanded ran.ran)
+  answered Spent ontology ran cause some short found reads writes = absurd (no_break ends.Spent ran.command some ran.commanded ran.ran)
+  answered ReadFault ontology ran cause some short found reads writes = absurd (reads (cause.read_fault refl))
+  answered WriteFault ontology ran cause some short found reads writes = absurd (writes (cause.write_fault refl))
+  answered Memory ontology ran cause some short found reads writes = inr refl
 
   -- any other text is refused
   pub refuses : (s : Status) → EndsSo words a b s → RunCause a b s
       → IsSomeModule words → IsNoOntology text ⊎ (payload_limit < length text) → NotRisen a.read_faults b.read_faults → NotRisen a.write_faults b.write_faults
       → (code_of s ≡ 3) ⊎ (code_of s ≡ 6)
-  refuses Done ends cause some unfit reads writes = let done = done_text ends.command some ends.commanded ends.ran in absurd (fits done.0 done.2 done.1 unfit)
-  refuses Usage ends cause some unfit reads writes = absurd (ends (of_module some.kind some.seed) some.commanded)
-  refuses (Refused refusal) ends cause some unfit reads writes = inl refl
-  refuses Cut ends cause some unfit reads writes = inl refl
-  refuses TooLong ends cause some unfit reads writes = inl refl
-  refuses Spent ends cause some unfit reads writes = inl refl
-  refuses ReadFault ends cause some unfit reads writes = absurd (reads (cause.read_fault refl))
-  refuses WriteFault ends cause some unfit reads writes = absurd (writes (cause.write_fault refl))
-  refuses Memory ends cause some unfit reads writes = inr refl
+  refuses Done ran cause some unfit reads writes = let done = done_text ran.command some ran.commanded ran.ran in absurd (fits done.0 done.2 done.1 unfit)
+  refuses Usage ran cause some unfit reads writes = absurd (ran (of_module some.kind some.seed) some.commanded)
+  refuses (Refused refusal) ran cause some unfit reads writes = inl refl
+  refuses Cut ran cause some unfit reads writes = inl refl
+  refuses TooLong ran cause some unfit reads writes = inl refl
+  refuses Spent ran cause some unfit reads writes = inl refl
+  refuses ReadFault ran cause some unfit reads writes = absurd (reads (cause.read_fault refl))
+  refuses WriteFault ran cause some unfit reads writes = absurd (writes (cause.write_fault refl))
+  refuses Memory ran cause some unfit reads writes = inr refl
 
 refused_for : (refusal : Refusal) (command : Command) (a b : Flow) → RefusesFor refusal command a b → Refuses command a b
 refused_for refusal (of_module kind seed) a b h = (refusal, h)
 refused_for refusal (of_script workers) a b h = absurd h
 
+broken_off : (end : End) (command : Command) (a b : Flow) → IsBreak end → BreaksSo end command a b → Refuses command a b
+broken_off end (of_module kind seed) a b is h = absurd h
+broken_off end (of_script workers) a b is h = record { end = h.end; fits = subst IsBreak (sym h.fits) is; log = h.log; session = h.session }
+
 -- its input was refused
 pub is_refused : (words : List (List ℕ)) (a b : Flow) (s : Status) → EndsSo words a b s → code_of s ≡ 3 → IsRefused words a b
-is_refused words a b Done ends code = absurd (omega (arith, code))
-is_refused words a b Usage ends code = absurd (omega (arith, code))
-is_refused words a b (Refused refusal) ends code = record { command = ends.command; commanded = ends.commanded; ran = refused_for refusal ends.command a b ends.ran }
-is_refused words a b Cut ends code = ends
-is_refused words a b TooLong ends code = ends
-is_refused words a b Spent ends code = ends
-is_refused words a b ReadFault ends code = absurd (omega (arith, code))
-is_refused words a b WriteFault ends code = absurd (omega (arith, code))
-is_refused words a b Memory ends code = absurd (omega (arith, code))
+is_refused words a b Done ran code = absurd (omega (arith, code))
+is_refused words a b Usage ran code = absurd (omega (arith, code))
+is_refused words a b (Refused refusal) ran code = record { command = ran.command; commanded = ran.commanded; ran = refused_for refusal ran.command a b ran.ran }
+is_refused words a b Cut ran code = record { command = ran.command; commanded = ran.commanded; ran = broken_off ends.Cut ran.command a b tt ran.ran }
+is_refused words a b TooLong ran code = record { command = ran.command; commanded = ran.commanded; ran = broken_off ends.TooLong ran.command a b tt ran.ran }
+is_refused words a b Spent ran code = record { command = ran.command; commanded = ran.commanded; ran = broken_off ends.Spent ran.command a b tt ran.ran }
+is_refused words a b ReadFault ran code = absurd (omega (arith, code))
+is_refused words a b WriteFault ran code = absurd (omega (arith, code))
+is_refused words a b Memory ran code = absurd (omega (arith, code))
 
 -- the exit status is this code or that of wanting memory
 pub either_code : (n result code : ℕ) → result ≡ code → (code ≡ n) ⊎ (code ≡ 6) → (result ≡ n) ⊎ (result ≡ 6)

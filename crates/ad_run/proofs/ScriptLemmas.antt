@@ -16,7 +16,7 @@ use Rattle.ad_run.specs.Statuses.{code_of}
 use Rattle.ad_run.specs.Command.{Command, IsCommand, of_module, of_script}
 use Rattle.ad_run.specs.Output.{standard}
 use Rattle.ad_reply.specs.declared.refusal.Refusal.{Refusal}
-use Rattle.ad_run.specs.Ends.{Does, RefusesFor, Refuses, IsClosing, IsBreak, RunsSession}
+use Rattle.ad_run.specs.Ends.{Does, RefusesFor, BreaksSo, IsClosing, IsBreak}
 use Rattle.ad_run.specs.Runs.{EndsSo, RunCause, IsSomeScript, code_at}
 use Rattle.ad_run.proofs.RunLemmas.{not_both}
 
@@ -62,9 +62,9 @@ module _ (words : List (List ℕ)) (a b : Flow) (text : List ℕ) (told : a.left
   done (of_module kind seed) some asked h = absurd (not_both words kind seed some.workers asked some.commanded)
   done (of_script workers) some asked h = closes h.log h.end h.fits h.session
 
-  broken : (command : Command) → IsSomeScript words → IsCommand words command → Refuses command a b → 3 ≡ code_at s.ending
-  broken (of_module kind seed) some asked h = absurd (not_both words kind seed some.workers asked some.commanded)
-  broken (of_script workers) some asked h = breaks h.log h.end h.fits h.session
+  broken : (end : End) (command : Command) → IsBreak end → IsSomeScript words → IsCommand words command → BreaksSo end command a b → 3 ≡ code_at s.ending
+  broken end (of_module kind seed) is some asked h = absurd h
+  broken end (of_script workers) is some asked h = breaks h.log h.end (subst IsBreak (sym h.fits) is) h.session
 
   -- it has no document that could be refused
   no_document : (refusal : Refusal) (command : Command) → IsSomeScript words → IsCommand words command → RefusesFor refusal command a b → ⊥
@@ -77,9 +77,9 @@ module _ (words : List (List ℕ)) (a b : Flow) (text : List ℕ) (told : a.left
   session_code Done ran cause some reads writes = inl (done ran.command some ran.commanded ran.ran)
   session_code Usage ran cause some reads writes = absurd (ran (of_script some.workers) some.commanded)
   session_code (Refused refusal) ran cause some reads writes = absurd (no_document refusal ran.command some ran.commanded ran.ran)
-  session_code Cut ran cause some reads writes = inl (broken ran.command some ran.commanded ran.ran)
-  session_code TooLong ran cause some reads writes = inl (broken ran.command some ran.commanded ran.ran)
-  session_code Spent ran cause some reads writes = inl (broken ran.command some ran.commanded ran.ran)
+  session_code Cut ran cause some reads writes = inl (broken ends.Cut ran.command tt some ran.commanded ran.ran)
+  session_code TooLong ran cause some reads writes = inl (broken ends.TooLong ran.command tt some ran.commanded ran.ran)
+  session_code Spent ran cause some reads writes = inl (broken ends.Spent ran.command tt some ran.commanded ran.ran)
   session_code ReadFault ran cause some reads writes = absurd (reads (cause.read_fault refl))
   session_code WriteFault ran cause some reads writes = absurd (writes (cause.write_fault refl))
   session_code Memory ran cause some reads writes = inr refl

@@ -14,12 +14,12 @@ use Rattle.ad_base.specs.declared.limits.Side.{Side}
 use Rattle.ad_base.specs.declared.limits.Side.TheVariants as sides
 use Rattle.ad_base.specs.declared.limits.Kind.TheVariants as modules
 use Rattle.ad_lex.specs.Characters.{is_iri}
-use Rattle.ad_lex.proofs.Pieces.{bytes_same, bytes_eq-refl}
+use Rattle.ad_lex.proofs.Pieces.{bytes_same}
 use Rattle.ad_tree.specs.Entities.{entity}
 use Rattle.ad_tree.specs.declared.entities.EntityKind.{EntityKind}
 use Rattle.ad_tree.specs.declared.entities.EntityKind.TheVariants as kinds
 use Rattle.ad_tree.specs.declared.entities.Entity.{Entity}
-use Rattle.ad_run.specs.Command.{Command, IsCommand, IsSeedEntity, kind_of, of_module, seed_word, command_words, module_word, IsOffered}
+use Rattle.ad_run.specs.Command.{IsCommand, IsSeedEntity, kind_of, of_module, seed_word, command_words, module_word, IsOffered}
 use Rattle.ad_write.specs.Canonical.{kind_word}
 use Rattle.ad_run.specs.Words.{front_of, is_iri_behind, first_kind, all_kinds, kind_in, is_seed_word, are_seed_words, side_in, module_side, script_alone, script_with}
 use Rattle.ad_run.specs.Runs.{IsNoModule, IsNoScript, IsSomeScript}

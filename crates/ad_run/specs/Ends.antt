@@ -1,7 +1,7 @@
 -- How a run of the program ends, in terms of its words and of the bytes of its source and its sink.
-use Rattle.std.specs.Prelude.{◌≡◌, ℕ, ◌+◌, ◌⊎◌, ◌≤◌, List, [], Option, length}
+use Rattle.std.specs.Prelude.{◌≡◌, ℕ, List, []}
 use Rattle.ad_base.specs.declared.limits.Kind.{Kind}
-use Rattle.ad_io.specs.Flow.{Loses, LosesExactly, Gains, GainsFront, IsAtEnd}
+use Rattle.ad_io.specs.Flow.{Gains, GainsFront}
 use Rattle.ad_edition.specs.Log.{Logged}
 use Rattle.ad_session.specs.Flows.{Flow}
 use Rattle.ad_session.specs.Ends.{SessionIs}
@@ -61,6 +61,11 @@ RefusesFor refusal (of_script workers) a b = ⊥
 abbrev pub Refuses : Command → Flow → Flow → Type 0
 Refuses (of_module kind seed) a b = (refusal : Refusal) × RefusesFor refusal (of_module kind seed) a b
 Refuses (of_script workers) a b = RunsSession IsBreak a b
+
+-- the session was broken off in this way, and the replies up to there were written
+abbrev pub BreaksSo : End → Command → Flow → Flow → Type 0
+BreaksSo end (of_module kind seed) a b = ⊥
+BreaksSo end (of_script workers) a b = RunsSession (λ e. e ≡ end) a b
 
 -- the source failed: nothing was written, or the replies to the requests that were read whole
 abbrev pub FailsReading : Command → Flow → Flow → Type 0

@@ -52,8 +52,8 @@ pub fn run_once<S: Source, K: Sink, N: Sink>(
     ensures untouched { result ≡ 2 → (source.new ≡ source.old) × (sink.new ≡ sink.old) }
 
     // 3: for a module, the source was read to its end and is no document of an ontology within the limits, or it is too
-    // long, and nothing is written. The input of a session was cut or too long, or had as many requests as one may have, and the
-    // sink has exactly the replies up to there.
+    // long, and nothing is written. The input of a session was cut or too long, or had as many requests as one may have,
+    // and the sink has exactly the replies up to there.
     ensures refused { result ≡ 3 → IsRefused words.now (flow (S.left source.old) (S.faults source.old) (K.written sink.old) (K.faults sink.old)) (flow (S.left source.new) (S.faults source.new) (K.written sink.new) (K.faults sink.new)) }
 
     // 4 and 5: only where the source's, or the sink's, count of faults rose. At 4 nothing was written for a module, and
@@ -71,8 +71,8 @@ pub fn run_once<S: Source, K: Sink, N: Sink>(
     ensures complete { (text : List ℕ) (ontology : List Noted) → IsSomeModule words.now → S.left source.old ≡ Some text → IsSome (S.left source.new) → length text ≤ payload_limit → IsOntology text ontology → NotRisen (S.faults source.old) (S.faults source.new) → NotRisen (K.faults sink.old) (K.faults sink.new) → (result ≡ 0) ⊎ (result ≡ 6) }
     ensures refuses { (text : List ℕ) → IsSomeModule words.now → S.left source.old ≡ Some text → IsSome (S.left source.new) → IsNoOntology text ⊎ (payload_limit < length text) → NotRisen (S.faults source.old) (S.faults source.new) → NotRisen (K.faults sink.old) (K.faults sink.new) → (result ≡ 3) ⊎ (result ≡ 6) }
 
-    // The notes get exactly the line of the status, which for a refused document names the cause that it has, or a front
-    // of the line where they fail; and nothing at 0.
+    // The notes get exactly the line of the status, or a front of it where they fail; and nothing at 0. For a refused
+    // document the line names the cause that it has, and for a session how its input broke off.
     ensures told { IsTold words.now (flow (S.left source.old) (S.faults source.old) (K.written sink.old) (K.faults sink.old)) (flow (S.left source.new) (S.faults source.new) (K.written sink.new) (K.faults sink.new)) result (N.written notes.old) (N.written notes.new) (N.faults notes.old) (N.faults notes.new) }
 
     // And where they are those of a session, the status is 0 exactly where the input closes it, and else 3, unless

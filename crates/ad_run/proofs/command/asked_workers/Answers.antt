@@ -1,5 +1,5 @@
-use Rattle.std.proofs.Common.{◌≡◌, List, ℕ, sym, ◌∙◌, arith}
-use Rattle.ad_run.proofs.WordLemmas.{alone, some_script, no_other, no_script}
+use Rattle.std.proofs.Common.{sym, ◌∙◌, arith}
+use Rattle.ad_run.proofs.WordLemmas.{alone, some_script, no_other}
 use Rattle.ad_run.proofs.command.asked_workers.Goals as goal
 
 pub returns-then-is_script-clause-some : goal.returns-then-is_script-clause-some

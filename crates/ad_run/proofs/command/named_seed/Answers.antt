@@ -1,4 +1,4 @@
-use Rattle.std.proofs.Common.{◌≡◌, ℕ, List, length, take, drop, map, sym, ◌∙◌, arith, length-drop, ◌-◌}
+use Rattle.std.proofs.Common.{◌≡◌, List, length, take, drop, map, sym, ◌∙◌, arith, length-drop, ◌-◌}
 use Rattle.std.proofs.lemmas.Result.{IfOk-weaker}
 use Rattle.std.specs.List.{AllByRecursion}
 use Rattle.std.proofs.lemmas.List.{take_all}

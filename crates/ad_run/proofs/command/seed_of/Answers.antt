@@ -1,7 +1,6 @@
-use Rattle.std.proofs.Common.{◌≡◌, List, map, take, sym, ◌∙◌, ap, subst, arith}
+use Rattle.std.proofs.Common.{map, sym, ◌∙◌, ap, subst}
 use Rattle.std.proofs.lemmas.List.{take_all}
 use Rattle.std.specs.List.{AllByRecursion}
-use Rattle.ad_tree.specs.declared.entities.Entity.{Entity}
 use Rattle.ad_run.specs.Command.{IsSeedEntity, seed_word}
 use Rattle.ad_run.proofs.WordLemmas.{one_more}
 use Rattle.ad_run.proofs.command.seed_of.Goals as goal

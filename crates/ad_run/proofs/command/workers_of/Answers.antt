@@ -1,4 +1,4 @@
-use Rattle.std.proofs.Common.{◌≡◌, List, ℕ, subst, arith}
+use Rattle.std.proofs.Common.{subst, arith}
 use Rattle.ad_base.specs.Decimal.{IsNumber}
 use Rattle.ad_run.proofs.WordLemmas.{not_workers}
 use Rattle.ad_run.proofs.command.workers_of.Goals as goal

@@ -1,5 +1,5 @@
 -- The text was answered, or refused, by how the run ended.
-use Rattle.std.proofs.Common.{◌≡◌, sym, ◌∙◌}
+use Rattle.std.proofs.Common.{sym, ◌∙◌}
 use Rattle.ad_session.specs.Flows.{flow}
 use Rattle.ad_run.specs.Statuses.{code_of}
 use Rattle.ad_run.specs.Runs.{code_at}

@@ -1,5 +1,5 @@
 -- The session that was run, from the empty log on.
-use Rattle.std.proofs.Common.{◌≡◌, ◌<◌, length, sym, ap, subst, arith, ◌∙◌}
+use Rattle.std.proofs.Common.{◌<◌, length, sym, ap, subst, arith, ◌∙◌}
 use Rattle.ad_session.specs.Flows.{flow}
 use Rattle.ad_session.specs.Ends.{SessionIs}
 use Rattle.ad_run.specs.Scripts.{ScriptEnds}
