@@ -1,1 +1,4 @@
-pub mod Phrases
+pub mod Alone
+pub mod Longest
+pub mod Literals
+pub mod Trees

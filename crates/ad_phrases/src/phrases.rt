@@ -1,4 +1,4 @@
-ghost use Rattle.std.specs.Prelude.{◌≡◌, ◌≤◌, ◌-◌, false, ⊥, length, take, drop, OnOk, IfOk, IfErr};
+ghost use Rattle.std.specs.Prelude.{◌≡◌, ◌≤◌, ◌-◌, false, length, take, drop, OnOk, IfOk, IfErr};
 ghost use Rattle.ad_lex.specs.Lexemes.{lexemes};
 ghost use Rattle.ad_lex.specs.Spans.{AreTokensOf};
 ghost use Rattle.ad_grammar.specs.Names.{SpellsProperty, SpellsIndividual, SpellsLiteral};
@@ -150,7 +150,7 @@ pub fn build_literal(
     ensures built { IfOk result (λ built. IsBuilt form.literal (SpellsLiteral (in_force (declarations prefixes.now))) (lexemes text.now tokens.now) from built.0 built.1) }
     ensures refused { IfErr result (Refuses form.literal (in_force (declarations prefixes.now)) text.now tokens.now from) }
 {
-    let to = behind_literal(text, tokens.list(), from);
+    let to = behind_literal(text, tokens, from);
     let phrase = &tokens.list()[..to as usize];
     known(text, phrase, from as usize, prefixes)?;
     match ad_build::build_literal(alloc, text, phrase, from as usize, prefixes)? {
