@@ -1,0 +1,4 @@
+pub mod Alone
+pub mod Longest
+pub mod Literals
+pub mod Trees

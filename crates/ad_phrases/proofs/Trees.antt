@@ -1,0 +1,141 @@
+-- The tokens of a phrase whose prefixes are known spell a tree.
+use Rattle.std.proofs.Common.{◌≡◌, ℕ, ◌+◌, ◌-◌, ◌≤◌, Bool, true, false, List, [], ◌∷◌, ◌++◌, take, drop, find, Option, None, Some, is_some, refl, sym, ◌∙◌, ap, subst, arith}
+use Rattle.std.specs.Prelude.{is_none}
+use Rattle.std.specs.Option.{option_map}
+use Rattle.std.proofs.lemmas.Bool.{true≢false}
+use Rattle.std.proofs.lemmas.List.{drop-take, take-map, drop-map}
+use Rattle.ad_lex.specs.Lexemes.{Lexeme, lexeme, lexemes}
+use Rattle.ad_lex.specs.Lexemes as says
+use Rattle.ad_lex.specs.declared.token.Token.{Token}
+use Rattle.ad_tree.specs.declared.names.ObjProp.{ObjProp}
+use Rattle.ad_tree.specs.declared.names.Individual.{Individual}
+use Rattle.ad_tree.specs.declared.literals.Literal.{Literal}
+use Rattle.ad_tree.specs.declared.ranges.Range.{Range}
+use Rattle.ad_tree.specs.declared.classes.Class.{Class}
+use Rattle.ad_grammar.specs.Shapes.{Text}
+use Rattle.ad_grammar.specs.Names.{Words, SpellsProperty, SpellsIndividual, SpellsLiteral}
+use Rattle.ad_grammar.specs.Phrases.{SpellsRange, SpellsClass}
+use Rattle.ad_grammar.specs.Faults.{Form, IsOf, IsLongest}
+use Rattle.ad_grammar.specs.Faults as form
+use Rattle.ad_grammar_laws.specs.Known.{IsKnown, AreKnown, Moved}
+use Rattle.ad_grammar_laws.proofs.Words.{class_moves, range_moves, property_moves, individual_moves, literal_moves}
+use Rattle.ad_build.specs.Items.{as_class, as_range, as_property, as_individual, as_literal}
+use Rattle.ad_build.specs.Lists.{is_unknown}
+use Rattle.ad_build.proofs.Phrases.{properties_read, individuals_read, literals_read, ranges_read}
+use Rattle.ad_build.proofs.ClassPhrases.{classes_read}
+use Rattle.ad_build.proofs.Uniqueness.{once}
+use Rattle.ad_phrases.specs.Phrases.{IsBuilt, IsFirstUnknown, IsUnknownIn, Refuses, RefusesIn}
+use Rattle.ad_phrases.specs.declared.phrases.BuildRefused.{BuildRefused}
+use Rattle.ad_phrases.specs.declared.phrases.BuildRefused.TheVariants as refused_by
+
+pub none_not_some : {X : Type 0} (x : X) → None ≡ Some x → ⊥
+none_not_some x h = absurd (true≢false (sym (ap is_some h)))
+
+pub some_same : {X : Type 0} (x y : X) → Some x ≡ Some y → x ≡ y
+some_same {X} x y e = ap from e
+  where
+    from : Option X → X
+    from None = x
+    from (Some z) = z
+
+-- a form of phrase and the trees that it spells
+pub record Reading (form : Form) (X : Type 0) (spells : Words → X → Text → Type 0) : Type 1 where
+  pub spelled : (ts : Text) → IsOf false form ts → (words : Words) × (x : X) × spells words x ts
+  pub moves : (words words' : Words) (x : X) (ts : Text) → spells words x ts → Moved words words' spells ts
+  pub one : (words : Words) (x y : X) (ts : Text) → spells words x ts → spells words y ts → x ≡ y
+
+pub classes : Reading form.class Class (SpellsClass false)
+classes = record { spelled = λ ts h. h; moves = class_moves; one = λ words. once words (SpellsClass false words) as_class (classes_read words) }
+
+pub ranges : Reading form.range Range SpellsRange
+ranges = record { spelled = λ ts h. h; moves = range_moves; one = λ words. once words (SpellsRange words) as_range (ranges_read words) }
+
+pub properties : Reading form.property ObjProp SpellsProperty
+properties = record { spelled = λ ts h. h; moves = property_moves; one = λ words. once words (SpellsProperty words) as_property (properties_read words) }
+
+pub individuals : Reading form.individual Individual SpellsIndividual
+individuals = record { spelled = λ ts h. h; moves = individual_moves; one = λ words. once words (SpellsIndividual words) as_individual (individuals_read words) }
+
+pub literals : Reading form.literal Literal SpellsLiteral
+literals = record { spelled = λ ts h. h; moves = literal_moves; one = λ words. once words (SpellsLiteral words) as_literal (literals_read words) }
+
+-- prefixes that are known, and one that isn't
+some_is : (o : Option (List ℕ)) → is_none o ≡ false → (x : List ℕ) × (o ≡ Some x)
+some_is None h = absurd (true≢false h)
+some_is (Some x) h = (x, refl)
+
+none_is : (o : Option (List ℕ)) → is_none o ≡ true → (x : List ℕ) → o ≡ Some x → ⊥
+none_is None h x e = none_not_some x e
+none_is (Some y) h x e = true≢false (sym h)
+
+known_if : (words : Words) (l : Lexeme) → is_unknown words l ≡ false → IsKnown words l
+known_if words (says.Short prefix local) h = some_is (words prefix) h
+known_if words l h = tt
+
+unknown_if : (words : Words) (l : Lexeme) → is_unknown words l ≡ true → IsKnown words l → ⊥
+unknown_if words (says.Short prefix local) h (iri, e) = none_is (words prefix) h iri e
+unknown_if words l h k = true≢false (sym h)
+
+module _ (words : Words) (text : List ℕ) where
+  pub first_found : (ts : List Token) (token : Token) → find (λ t. is_unknown words (lexeme text t)) ts ≡ Some token → IsFirstUnknown words text ts token
+  first_found [] token h = absurd (none_not_some token h)
+  first_found (t ∷ ts) token h = by_test (is_unknown words (lexeme text t)) refl (first_found ts token)
+    where
+      by_test : (b : Bool) → is_unknown words (lexeme text t) ≡ b → (find (λ u. is_unknown words (lexeme text u)) ts ≡ Some token → IsFirstUnknown words text ts token) → IsFirstUnknown words text (t ∷ ts) token
+      by_test true e later =
+          let same : t ≡ token = some_same t token (sym (rw e refl) ∙ h) in
+          record { before = []; behind = ts; is = ap (λ u. u ∷ ts) same; known = tt; unknown = unknown_if words (lexeme text token) (ap (λ u. is_unknown words (lexeme text u)) (sym same) ∙ e) }
+      by_test false e later =
+          let f = later (sym (rw e refl) ∙ h) in
+          record { before = t ∷ f.before; behind = f.behind; is = ap (λ us. t ∷ us) f.is; known = (known_if words (lexeme text t) e, f.known); unknown = f.unknown }
+
+  none_found : (ts : List Token) → find (λ t. is_unknown words (lexeme text t)) ts ≡ None → AreKnown words (lexemes text ts)
+  none_found [] h = tt
+  none_found (t ∷ ts) h = by_test (is_unknown words (lexeme text t)) refl (none_found ts)
+    where
+      by_test : (b : Bool) → is_unknown words (lexeme text t) ≡ b → (find (λ u. is_unknown words (lexeme text u)) ts ≡ None → AreKnown words (lexemes text ts)) → AreKnown words (lexemes text (t ∷ ts))
+      by_test true e later = absurd (none_not_some t (sym h ∙ rw e refl))
+      by_test false e later = (known_if words (lexeme text t) e, later (sym (rw e refl) ∙ h))
+
+  -- the same of the place of what is found
+  pub all_known : (ts : List Token) (found : Option ℕ) → found ≡ option_map (λ t. t.from) (find (λ t. is_unknown words (lexeme text t)) ts) → found ≡ None → AreKnown words (lexemes text ts)
+  all_known ts found e none = by_find (find (λ t. is_unknown words (lexeme text t)) ts) refl (sym e ∙ none)
+    where
+      by_find : (o : Option Token) → find (λ t. is_unknown words (lexeme text t)) ts ≡ o → option_map (λ (t : Token). t.from) o ≡ None → AreKnown words (lexemes text ts)
+      by_find None is h = none_found ts is
+      by_find (Some t) is h = absurd (none_not_some t.from (sym h))
+
+  pub one_unknown : (ts : List Token) (found : Option ℕ) (at : ℕ) → found ≡ option_map (λ t. t.from) (find (λ t. is_unknown words (lexeme text t)) ts) → found ≡ Some at → RefusesIn words text ts (refused_by.Prefix at)
+  one_unknown ts found at e some = by_find (find (λ t. is_unknown words (lexeme text t)) ts) refl (sym e ∙ some)
+    where
+      by_find : (o : Option Token) → find (λ t. is_unknown words (lexeme text t)) ts ≡ o → option_map (λ (t : Token). t.from) o ≡ Some at → RefusesIn words text ts (refused_by.Prefix at)
+      by_find None is h = absurd (none_not_some at h)
+      by_find (Some t) is h = (t, first_found ts t is, some_same at t.from (sym h))
+
+-- the phrase that begins at one token and ends before another
+module _ (text : List ℕ) (tokens : List Token) (from to : ℕ) (order : from ≤ to) where
+  phrase_is : drop from (take to tokens) ≡ take (to - from) (drop from tokens)
+  phrase_is =
+      let whole : to ≡ from + (to - from) = omega (arith, order) in
+      ap (λ n. drop from (take n tokens)) whole ∙ drop-take from (to - from) tokens
+
+  phrase_says : lexemes text (drop from (take to tokens)) ≡ take (to - from) (drop from (lexemes text tokens))
+  phrase_says =
+      ap (lexemes text) phrase_is
+      ∙ sym (take-map (lexeme text) (to - from) (drop from tokens))
+      ∙ ap (take (to - from)) (sym (drop-map (lexeme text) from tokens))
+
+  module _ (form : Form) (X : Type 0) (spells : Words → X → Text → Type 0) (r : Reading form X spells) (words : Words) (longest : IsLongest form (drop from (lexemes text tokens)) (to - from)) where
+    -- the tree that its tokens spell
+    pub tree_found : (phrase : List Token) → phrase ≡ drop from (take to tokens) → AreKnown words (lexemes text phrase) → (found : Option X) → ((x : X) → spells words x (lexemes text phrase) → found ≡ Some x) → (x : X) × (found ≡ Some x) × IsBuilt form (spells words) (lexemes text tokens) from x to
+    tree_found phrase e known found is =
+        let ts : Text = take (to - from) (drop from (lexemes text tokens)) in
+        let says_so : lexemes text phrase ≡ ts = ap (lexemes text) e ∙ phrase_says in
+        let own = r.spelled ts longest.phrase in
+        let moved = (r.moves own.0 words own.1 ts own.2).1 (subst (AreKnown words) says_so known) in
+        (moved.0, is moved.0 (subst (spells words moved.0) (sym says_so) moved.1), record { after = order; longest = longest; spelled = moved.1 })
+
+    -- the name that keeps it from being built
+    pub name_found : (phrase : List Token) → phrase ≡ drop from (take to tokens) → (refused : BuildRefused) → RefusesIn words text phrase refused → Refuses form words text tokens from refused
+    name_found phrase e (refused_by.Prefix at) (token, first, place) = (token, record { size = to - from; longest = longest; first = subst (λ us. IsFirstUnknown words text us token) (e ∙ phrase_is) first }, place)
+    name_found phrase e refused_by.Memory h = absurd h
