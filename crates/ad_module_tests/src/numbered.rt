@@ -47,8 +47,8 @@ fn limits() -> Limits
 pub(crate) struct Numbered {
     universe: FlatUniverse<Both>,
     symbols: Symbols,
-    ghost slots: { universe.slots.most ≡ MOST },
-    ghost entities: { universe.slots.symbols ≡ MOST },
+    ghost slots: { universe.slots.most ≡ 32 },
+    ghost entities: { universe.slots.symbols ≡ 32 },
 }
 
 /// The axioms of additions, each with its place in the list as its number.

@@ -115,7 +115,7 @@ fn above(alloc: Global, expression: &str) -> Result<Noted, Fail>
     Ok(axiom(alloc, text.as_str()).ok_or("no class")?)
 }
 
-fn placed(alloc: Global, expression: &str) -> Result<Placed, Fail> {
+fn place_expression(alloc: Global, expression: &str) -> Result<Placed, Fail> {
     let below = below(alloc, expression)?;
     let above = above(alloc, expression)?;
     Ok(Placed { below, above })
@@ -128,7 +128,7 @@ fn seen_with_x(alloc: Global, names: &str) -> Result<Seed, Fail> {
 }
 
 /// What is sure of the expression on a side, for the seen names and u:X.
-fn sure(side: Side, placed: &Placed, seen: &Seed) -> Sure {
+fn sure_on(side: Side, placed: &Placed, seen: &Seed) -> Sure {
     match (
         is_local(side, &placed.below, seen),
         is_local(side, &placed.above, seen),
@@ -142,20 +142,20 @@ fn sure(side: Side, placed: &Placed, seen: &Seed) -> Sure {
 
 /// What is sure of an expression on the bottom side and on the top side where these names are seen.
 pub(crate) fn sure_for(alloc: Global, expression: &str, names: &str) -> Result<(Sure, Sure), Fail> {
-    let placed = placed(alloc, expression)?;
+    let placed = place_expression(alloc, expression)?;
     let seen = seen_with_x(alloc, names)?;
     Ok((
-        sure(Side::Bottom, &placed, &seen),
-        sure(Side::Top, &placed, &seen),
+        sure_on(Side::Bottom, &placed, &seen),
+        sure_on(Side::Top, &placed, &seen),
     ))
 }
 
 /// The same where all names of the expression are seen.
 pub(crate) fn sure_for_all(alloc: Global, expression: &str) -> Result<(Sure, Sure), Fail> {
-    let placed = placed(alloc, expression)?;
+    let placed = place_expression(alloc, expression)?;
     let seen = signature(alloc, &placed.below)?;
     Ok((
-        sure(Side::Bottom, &placed, &seen),
-        sure(Side::Top, &placed, &seen),
+        sure_on(Side::Bottom, &placed, &seen),
+        sure_on(Side::Top, &placed, &seen),
     ))
 }
