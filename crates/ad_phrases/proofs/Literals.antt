@@ -14,7 +14,8 @@ use Rattle.ad_grammar.specs.Shapes.{Text}
 use Rattle.ad_grammar.specs.Names.{Words, IsName, SpellsLiteral}
 use Rattle.ad_grammar.specs.Faults.{IsOf, IsLongest}
 use Rattle.ad_grammar.specs.Faults as form
-use Rattle.ad_phrases.specs.Phrases.{HasPhrase, mark_at, literal_size}
+use Rattle.ad_phrases.specs.Phrases.{HasPhrase}
+use Rattle.ad_phrases.specs.Marks.{mark_at, literal_size}
 
 -- the same of what the tokens say
 abbrev size : Text → ℕ

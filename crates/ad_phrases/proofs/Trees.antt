@@ -112,6 +112,10 @@ module _ (words : Words) (text : List ℕ) where
       by_find None is h = absurd (none_not_some at h)
       by_find (Some t) is h = (t, first_found ts t is, some_same at t.from (sym h))
 
+-- what a front of the tokens from one on says
+pub front_says : (text : List ℕ) (tokens : List Token) (from n : ℕ) → lexemes text (take n (drop from tokens)) ≡ take n (drop from (lexemes text tokens))
+front_says text tokens from n = sym (take-map (lexeme text) n (drop from tokens)) ∙ ap (take n) (sym (drop-map (lexeme text) from tokens))
+
 -- the phrase that begins at one token and ends before another
 module _ (text : List ℕ) (tokens : List Token) (from to : ℕ) (order : from ≤ to) where
   phrase_is : drop from (take to tokens) ≡ take (to - from) (drop from tokens)
@@ -120,10 +124,7 @@ module _ (text : List ℕ) (tokens : List Token) (from to : ℕ) (order : from �
       ap (λ n. drop from (take n tokens)) whole ∙ drop-take from (to - from) tokens
 
   phrase_says : lexemes text (drop from (take to tokens)) ≡ take (to - from) (drop from (lexemes text tokens))
-  phrase_says =
-      ap (lexemes text) phrase_is
-      ∙ sym (take-map (lexeme text) (to - from) (drop from tokens))
-      ∙ ap (take (to - from)) (sym (drop-map (lexeme text) from tokens))
+  phrase_says = ap (lexemes text) phrase_is ∙ front_says text tokens from (to - from)
 
   module _ (form : Form) (X : Type 0) (spells : Words → X → Text → Type 0) (r : Reading form X spells) (words : Words) (longest : IsLongest form (drop from (lexemes text tokens)) (to - from)) where
     -- the tree that its tokens spell

@@ -2,7 +2,8 @@ ghost use Rattle.std.specs.Prelude.{◌≡◌, ◌≤◌, ◌-◌, length, drop,
 ghost use Rattle.ad_lex.specs.Lexemes.{lexemes};
 ghost use Rattle.ad_grammar.specs.Faults.{IsLongest};
 ghost use Rattle.ad_grammar.specs.Faults as form;
-ghost use Rattle.ad_phrases.specs.Phrases.{HasPhrase, mark_at, literal_size};
+ghost use Rattle.ad_phrases.specs.Phrases.{HasPhrase};
+ghost use Rattle.ad_phrases.specs.Marks.{mark_at, literal_size};
 
 use ad_check::Stop;
 use ad_lex::{Mark, Token, Tokens};

@@ -1,4 +1,4 @@
-ghost use Rattle.std.specs.Prelude.{◌≡◌, ◌≤◌, ◌-◌, false, length, take, drop, OnOk, IfOk, IfErr};
+ghost use Rattle.std.specs.Prelude.{◌≡◌, ℕ, ◌≤◌, ◌-◌, false, length, take, drop, OnOk, IfOk, IfErr};
 ghost use Rattle.ad_lex.specs.Lexemes.{lexemes};
 ghost use Rattle.ad_lex.specs.Spans.{AreTokensOf};
 ghost use Rattle.ad_grammar.specs.Names.{SpellsProperty, SpellsIndividual, SpellsLiteral};
@@ -8,7 +8,13 @@ ghost use Rattle.ad_grammar.specs.Faults as form;
 ghost use Rattle.ad_grammar.specs.Nesting.{nesting};
 ghost use Rattle.ad_grammar_laws.specs.Known.{AreKnown};
 ghost use Rattle.ad_build.specs.Declarations.{declarations};
-ghost use Rattle.ad_phrases.specs.Phrases.{HasPhrase, IsBuilt, Refuses, RefusesIn};
+ghost use Rattle.ad_phrases.specs.Phrases.{HasPhrase, IsBuilt, IsBuiltOrMemory, IsUnknownIn, IsPrefixOrMemory, Refuses, RefusesIn};
+ghost use Rattle.ad_lex.specs.declared.token.Token.{Token};
+ghost use Rattle.ad_tree.specs.declared.names.ObjProp.{ObjProp};
+ghost use Rattle.ad_tree.specs.declared.names.Individual.{Individual};
+ghost use Rattle.ad_tree.specs.declared.literals.Literal.{Literal};
+ghost use Rattle.ad_tree.specs.declared.ranges.Range.{Range};
+ghost use Rattle.ad_tree.specs.declared.classes.Class.{Class};
 
 use crate::ends::{behind, behind_literal};
 use ad_base::Memory;
@@ -52,7 +58,9 @@ pub fn build_class(
     requires nesting { nesting (drop from (lexemes text.now tokens.now)) ≤ 128 }
     requires phrase { HasPhrase form.class (drop from (lexemes text.now tokens.now)) }
     ensures built { IfOk result (λ built. IsBuilt form.class (SpellsClass false (in_force (declarations prefixes.now))) (lexemes text.now tokens.now) from built.0 built.1) }
+    ensures complete { (x : Class) (to : ℕ) → IsBuilt form.class (SpellsClass false (in_force (declarations prefixes.now))) (lexemes text.now tokens.now) from x to → IsBuiltOrMemory result x to }
     ensures refused { IfErr result (Refuses form.class (in_force (declarations prefixes.now)) text.now tokens.now from) }
+    ensures first { (token : Token) → IsUnknownIn form.class (in_force (declarations prefixes.now)) text.now tokens.now from token → IsPrefixOrMemory result token.from }
 {
     let to = behind(check_class(text, tokens, from));
     let phrase = &tokens.list()[..to as usize];
@@ -76,7 +84,9 @@ pub fn build_range(
     requires nesting { nesting (drop from (lexemes text.now tokens.now)) ≤ 128 }
     requires phrase { HasPhrase form.range (drop from (lexemes text.now tokens.now)) }
     ensures built { IfOk result (λ built. IsBuilt form.range (SpellsRange (in_force (declarations prefixes.now))) (lexemes text.now tokens.now) from built.0 built.1) }
+    ensures complete { (x : Range) (to : ℕ) → IsBuilt form.range (SpellsRange (in_force (declarations prefixes.now))) (lexemes text.now tokens.now) from x to → IsBuiltOrMemory result x to }
     ensures refused { IfErr result (Refuses form.range (in_force (declarations prefixes.now)) text.now tokens.now from) }
+    ensures first { (token : Token) → IsUnknownIn form.range (in_force (declarations prefixes.now)) text.now tokens.now from token → IsPrefixOrMemory result token.from }
 {
     let to = behind(check_range(text, tokens, from));
     let phrase = &tokens.list()[..to as usize];
@@ -100,7 +110,9 @@ pub fn build_objprop(
     requires nesting { nesting (drop from (lexemes text.now tokens.now)) ≤ 128 }
     requires phrase { HasPhrase form.property (drop from (lexemes text.now tokens.now)) }
     ensures built { IfOk result (λ built. IsBuilt form.property (SpellsProperty (in_force (declarations prefixes.now))) (lexemes text.now tokens.now) from built.0 built.1) }
+    ensures complete { (x : ObjProp) (to : ℕ) → IsBuilt form.property (SpellsProperty (in_force (declarations prefixes.now))) (lexemes text.now tokens.now) from x to → IsBuiltOrMemory result x to }
     ensures refused { IfErr result (Refuses form.property (in_force (declarations prefixes.now)) text.now tokens.now from) }
+    ensures first { (token : Token) → IsUnknownIn form.property (in_force (declarations prefixes.now)) text.now tokens.now from token → IsPrefixOrMemory result token.from }
 {
     let to = behind(check_objprop(text, tokens, from));
     let phrase = &tokens.list()[..to as usize];
@@ -124,7 +136,9 @@ pub fn build_individual(
     requires nesting { nesting (drop from (lexemes text.now tokens.now)) ≤ 128 }
     requires phrase { HasPhrase form.individual (drop from (lexemes text.now tokens.now)) }
     ensures built { IfOk result (λ built. IsBuilt form.individual (SpellsIndividual (in_force (declarations prefixes.now))) (lexemes text.now tokens.now) from built.0 built.1) }
+    ensures complete { (x : Individual) (to : ℕ) → IsBuilt form.individual (SpellsIndividual (in_force (declarations prefixes.now))) (lexemes text.now tokens.now) from x to → IsBuiltOrMemory result x to }
     ensures refused { IfErr result (Refuses form.individual (in_force (declarations prefixes.now)) text.now tokens.now from) }
+    ensures first { (token : Token) → IsUnknownIn form.individual (in_force (declarations prefixes.now)) text.now tokens.now from token → IsPrefixOrMemory result token.from }
 {
     let to = behind(check_individual(text, tokens, from));
     let phrase = &tokens.list()[..to as usize];
@@ -148,7 +162,9 @@ pub fn build_literal(
     requires nesting { nesting (drop from (lexemes text.now tokens.now)) ≤ 128 }
     requires phrase { HasPhrase form.literal (drop from (lexemes text.now tokens.now)) }
     ensures built { IfOk result (λ built. IsBuilt form.literal (SpellsLiteral (in_force (declarations prefixes.now))) (lexemes text.now tokens.now) from built.0 built.1) }
+    ensures complete { (x : Literal) (to : ℕ) → IsBuilt form.literal (SpellsLiteral (in_force (declarations prefixes.now))) (lexemes text.now tokens.now) from x to → IsBuiltOrMemory result x to }
     ensures refused { IfErr result (Refuses form.literal (in_force (declarations prefixes.now)) text.now tokens.now from) }
+    ensures first { (token : Token) → IsUnknownIn form.literal (in_force (declarations prefixes.now)) text.now tokens.now from token → IsPrefixOrMemory result token.from }
 {
     let to = behind_literal(text, tokens, from);
     let phrase = &tokens.list()[..to as usize];
