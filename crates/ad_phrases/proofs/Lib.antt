@@ -3,3 +3,4 @@ pub mod Longest
 pub mod Literals
 pub mod Trees
 pub mod Once
+pub mod Nestings

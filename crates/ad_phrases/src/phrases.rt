@@ -16,10 +16,9 @@ ghost use Rattle.ad_tree.specs.declared.literals.Literal.{Literal};
 ghost use Rattle.ad_tree.specs.declared.ranges.Range.{Range};
 ghost use Rattle.ad_tree.specs.declared.classes.Class.{Class};
 
-use crate::ends::{behind, behind_literal};
+use crate::ends::{behind_class, behind_individual, behind_literal, behind_objprop, behind_range};
 use ad_base::Memory;
 use ad_build::{Prefixes, first_unknown};
-use ad_check::{check_class, check_individual, check_objprop, check_range};
 use ad_lex::{Token, Tokens};
 use ad_tree::{Class, Individual, Literal, ObjProp, Range};
 use std::alloc::Global;
@@ -62,7 +61,7 @@ pub fn build_class(
     ensures refused { IfErr result (Refuses form.class (in_force (declarations prefixes.now)) text.now tokens.now from) }
     ensures first { (token : Token) → IsUnknownIn form.class (in_force (declarations prefixes.now)) text.now tokens.now from token → IsPrefixOrMemory result token.from }
 {
-    let to = behind(check_class(text, tokens, from));
+    let to = behind_class(text, tokens, from);
     let phrase = &tokens.list()[..to as usize];
     known(text, phrase, from as usize, prefixes)?;
     match ad_build::build_class(alloc, text, phrase, from as usize, prefixes)? {
@@ -88,7 +87,7 @@ pub fn build_range(
     ensures refused { IfErr result (Refuses form.range (in_force (declarations prefixes.now)) text.now tokens.now from) }
     ensures first { (token : Token) → IsUnknownIn form.range (in_force (declarations prefixes.now)) text.now tokens.now from token → IsPrefixOrMemory result token.from }
 {
-    let to = behind(check_range(text, tokens, from));
+    let to = behind_range(text, tokens, from);
     let phrase = &tokens.list()[..to as usize];
     known(text, phrase, from as usize, prefixes)?;
     match ad_build::build_range(alloc, text, phrase, from as usize, prefixes)? {
@@ -114,7 +113,7 @@ pub fn build_objprop(
     ensures refused { IfErr result (Refuses form.property (in_force (declarations prefixes.now)) text.now tokens.now from) }
     ensures first { (token : Token) → IsUnknownIn form.property (in_force (declarations prefixes.now)) text.now tokens.now from token → IsPrefixOrMemory result token.from }
 {
-    let to = behind(check_objprop(text, tokens, from));
+    let to = behind_objprop(text, tokens, from);
     let phrase = &tokens.list()[..to as usize];
     known(text, phrase, from as usize, prefixes)?;
     match ad_build::build_objprop(alloc, text, phrase, from as usize, prefixes)? {
@@ -140,7 +139,7 @@ pub fn build_individual(
     ensures refused { IfErr result (Refuses form.individual (in_force (declarations prefixes.now)) text.now tokens.now from) }
     ensures first { (token : Token) → IsUnknownIn form.individual (in_force (declarations prefixes.now)) text.now tokens.now from token → IsPrefixOrMemory result token.from }
 {
-    let to = behind(check_individual(text, tokens, from));
+    let to = behind_individual(text, tokens, from);
     let phrase = &tokens.list()[..to as usize];
     known(text, phrase, from as usize, prefixes)?;
     match ad_build::build_individual(alloc, text, phrase, from as usize, prefixes)? {
