@@ -1,5 +1,5 @@
 -- A text nests no deeper than it has tokens.
-use Rattle.std.proofs.Common.{ℕ, ◌-◌, ◌≤◌, List, [], ◌∷◌, length, drop, arith}
+use Rattle.std.proofs.Common.{ℕ, ◌≤◌, List, [], ◌∷◌, length, drop, arith}
 use Rattle.std.proofs.lemmas.List.{length-drop, length-map}
 use Rattle.ad_lex.specs.Lexemes.{lexeme, lexemes}
 use Rattle.ad_lex.specs.Lexemes as says

@@ -1,16 +1,16 @@
 -- One tree is built from a token on, or one name is refused.
-use Rattle.std.proofs.Common.{◌≡◌, ◌≢◌, ◌⊎◌, inl, inr, ℕ, ◌+◌, ◌-◌, ◌<◌, ◌≤◌, List, [], ◌∷◌, ◌++◌, take, drop, Option, None, Some, refl, sym, ◌∙◌, ap, subst, arith}
+use Rattle.std.proofs.Common.{◌≡◌, ◌⊎◌, inl, inr, ℕ, ◌-◌, ◌<◌, ◌≤◌, List, [], ◌∷◌, ◌++◌, take, drop, refl, sym, ◌∙◌, ap, subst, arith}
 use Rattle.std.specs.Prelude.{Result, Ok, Err, IfOk, IfErr}
 use Rattle.std.proofs.lemmas.Bool.{cases_lt}
 use Rattle.std.proofs.lemmas.List.{map-append}
-use Rattle.ad_lex.specs.Lexemes.{Lexeme, lexeme, lexemes}
+use Rattle.ad_lex.specs.Lexemes.{lexeme, lexemes}
 use Rattle.ad_lex.specs.declared.token.Token.{Token}
 use Rattle.ad_grammar.specs.Shapes.{Text}
 use Rattle.ad_grammar.specs.Names.{Words}
 use Rattle.ad_grammar.specs.Faults.{Form, IsLongest}
 use Rattle.ad_grammar_laws.specs.Known.{IsKnown, AreKnown}
 use Rattle.ad_grammar_laws.proofs.Words.{known_second}
-use Rattle.ad_phrases.specs.Phrases.{IsBuilt, IsBuiltOrMemory, IsFirstUnknown, IsUnknownIn, IsPrefixOrMemory, Refuses}
+use Rattle.ad_phrases.specs.Phrases.{IsBuilt, IsBuiltOrMemory, IsUnknownIn, IsPrefixOrMemory, Refuses}
 use Rattle.ad_phrases.specs.Laws.{IsBuiltOnce, IsNotRefused, IsRefusedOnce}
 use Rattle.ad_phrases.specs.declared.phrases.BuildRefused.{BuildRefused}
 use Rattle.ad_phrases.specs.declared.phrases.BuildRefused.TheVariants as refused_by

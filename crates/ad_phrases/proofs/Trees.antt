@@ -1,5 +1,5 @@
 -- The tokens of a phrase whose prefixes are known spell a tree.
-use Rattle.std.proofs.Common.{◌≡◌, ℕ, ◌+◌, ◌-◌, ◌≤◌, Bool, true, false, List, [], ◌∷◌, ◌++◌, take, drop, find, Option, None, Some, is_some, refl, sym, ◌∙◌, ap, subst, arith}
+use Rattle.std.proofs.Common.{◌≡◌, ℕ, ◌+◌, ◌-◌, ◌≤◌, Bool, true, false, List, [], ◌∷◌, take, drop, find, Option, None, Some, is_some, refl, sym, ◌∙◌, ap, subst, arith}
 use Rattle.std.specs.Prelude.{is_none}
 use Rattle.std.specs.Option.{option_map}
 use Rattle.std.proofs.lemmas.Bool.{true≢false}
@@ -24,7 +24,7 @@ use Rattle.ad_build.specs.Lists.{is_unknown}
 use Rattle.ad_build.proofs.Phrases.{properties_read, individuals_read, literals_read, ranges_read}
 use Rattle.ad_build.proofs.ClassPhrases.{classes_read}
 use Rattle.ad_build.proofs.Uniqueness.{once}
-use Rattle.ad_phrases.specs.Phrases.{IsBuilt, IsFirstUnknown, IsUnknownIn, Refuses, RefusesIn}
+use Rattle.ad_phrases.specs.Phrases.{IsBuilt, IsFirstUnknown, Refuses, RefusesIn}
 use Rattle.ad_phrases.specs.declared.phrases.BuildRefused.{BuildRefused}
 use Rattle.ad_phrases.specs.declared.phrases.BuildRefused.TheVariants as refused_by
 

@@ -10,8 +10,8 @@ ghost use Rattle.ad_phrases.specs.Marks.{mark_at, literal_size};
 use ad_check::{Stop, check_class, check_individual, check_objprop, check_range};
 use ad_lex::{Mark, Token, Tokens};
 
-/// The token behind the phrase that begins at a token, by what its check answers: the one behind it is the first
-/// at which none goes on.
+/// The token behind the phrase that begins at a token, by what its check answers: that token, or the first at which
+/// no phrase goes on.
 fn behind(checked: Result<u32, Stop>) -> u32
     ensures phrase { IfOk checked (λ to. result ≡ to) }
     ensures none { IfErr checked (λ stop. result ≡ stop.token) }

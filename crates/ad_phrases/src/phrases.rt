@@ -1,6 +1,12 @@
-ghost use Rattle.std.specs.Prelude.{◌≡◌, ℕ, ◌≤◌, ◌-◌, false, length, take, drop, OnOk, IfOk, IfErr};
+ghost use Rattle.std.specs.Prelude.{◌≡◌, ℕ, ◌≤◌, false, length, drop, OnOk, IfOk, IfErr};
+ghost use Rattle.ad_lex.specs.declared.token.Token.{Token};
 ghost use Rattle.ad_lex.specs.Lexemes.{lexemes};
 ghost use Rattle.ad_lex.specs.Spans.{AreTokensOf};
+ghost use Rattle.ad_tree.specs.declared.names.ObjProp.{ObjProp};
+ghost use Rattle.ad_tree.specs.declared.names.Individual.{Individual};
+ghost use Rattle.ad_tree.specs.declared.literals.Literal.{Literal};
+ghost use Rattle.ad_tree.specs.declared.ranges.Range.{Range};
+ghost use Rattle.ad_tree.specs.declared.classes.Class.{Class};
 ghost use Rattle.ad_grammar.specs.Names.{SpellsProperty, SpellsIndividual, SpellsLiteral};
 ghost use Rattle.ad_grammar.specs.Phrases.{SpellsRange, SpellsClass};
 ghost use Rattle.ad_grammar.specs.Texts.{in_force};
@@ -9,12 +15,6 @@ ghost use Rattle.ad_grammar.specs.Nesting.{nesting};
 ghost use Rattle.ad_grammar_laws.specs.Known.{AreKnown};
 ghost use Rattle.ad_build.specs.Declarations.{declarations};
 ghost use Rattle.ad_phrases.specs.Phrases.{HasPhrase, IsBuilt, IsBuiltOrMemory, IsUnknownIn, IsPrefixOrMemory, Refuses, RefusesIn};
-ghost use Rattle.ad_lex.specs.declared.token.Token.{Token};
-ghost use Rattle.ad_tree.specs.declared.names.ObjProp.{ObjProp};
-ghost use Rattle.ad_tree.specs.declared.names.Individual.{Individual};
-ghost use Rattle.ad_tree.specs.declared.literals.Literal.{Literal};
-ghost use Rattle.ad_tree.specs.declared.ranges.Range.{Range};
-ghost use Rattle.ad_tree.specs.declared.classes.Class.{Class};
 
 use crate::ends::{behind_class, behind_individual, behind_literal, behind_objprop, behind_range};
 use ad_base::Memory;

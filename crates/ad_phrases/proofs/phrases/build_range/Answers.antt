@@ -1,13 +1,11 @@
-use Rattle.std.proofs.Common.{◌≡◌, ◌-◌, ◌≤◌, take, drop, refl, sym, ◌∙◌, ap, subst}
+use Rattle.std.proofs.Common.{take, drop, sym, ◌∙◌, ap, subst}
 use Rattle.std.specs.Prelude.{Ok, Err}
 use Rattle.std.proofs.lemmas.List.Elements.{All-take}
 use Rattle.std.proofs.lemmas.Result.{err_from_is_err_and}
 use Rattle.ad_lex.specs.Lexemes.{lexemes}
 use Rattle.ad_lex.specs.Spans.{AreTokensOf, IsTokenOf}
-use Rattle.ad_lex.specs.declared.token.Token.{Token}
 use Rattle.ad_tree.specs.declared.ranges.Range.{Range}
 use Rattle.ad_grammar.specs.Phrases.{SpellsRange}
-use Rattle.ad_grammar.specs.Names.{Words}
 use Rattle.ad_grammar.specs.Texts.{in_force}
 use Rattle.ad_grammar.specs.Faults.{IsLongest}
 use Rattle.ad_grammar.specs.Faults as form
