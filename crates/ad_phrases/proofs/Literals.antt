@@ -1,6 +1,5 @@
 -- The longest literal at the front of a text.
-use Rattle.std.proofs.Common.{◌≡◌, ℕ, zero, suc, ◌+◌, ◌-◌, ◌<◌, ◌≤◌, false, List, [], ◌∷◌, ◌++◌, length, map, take, drop, slice_get, Option, None, Some, refl, sym, ◌∙◌, ap, subst, arith}
-use Rattle.std.specs.Option.{option_map}
+use Rattle.std.proofs.Common.{◌≡◌, ℕ, zero, suc, ◌+◌, ◌-◌, ◌<◌, ◌≤◌, false, List, [], ◌∷◌, length, take, drop, None, Some, refl, sym, ◌∙◌, ap, subst, arith}
 use Rattle.std.proofs.lemmas.List.{take_all, length-take-le, length-drop, length-map, drop-map}
 use Rattle.ad_lex.specs.Lexemes.{Lexeme, lexeme, lexemes, lexeme_of}
 use Rattle.ad_lex.specs.Lexemes as says
@@ -14,7 +13,8 @@ use Rattle.ad_grammar.specs.Shapes.{Text}
 use Rattle.ad_grammar.specs.Names.{Words, IsName, SpellsLiteral}
 use Rattle.ad_grammar.specs.Faults.{IsOf, IsLongest}
 use Rattle.ad_grammar.specs.Faults as form
-use Rattle.ad_phrases.specs.Phrases.{HasPhrase, mark_at, literal_size}
+use Rattle.ad_phrases.specs.Phrases.{HasPhrase}
+use Rattle.ad_phrases.specs.Marks.{mark_at, literal_size}
 
 -- the same of what the tokens say
 abbrev size : Text → ℕ

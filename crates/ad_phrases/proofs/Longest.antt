@@ -1,10 +1,9 @@
 -- Where the longest phrase ends, by what a check answers.
-use Rattle.std.proofs.Common.{◌≡◌, ◌⊎◌, inl, inr, ℕ, ◌+◌, ◌-◌, ◌<◌, ◌≤◌, false, List, [], ◌∷◌, ◌++◌, length, take, drop, refl, sym, ◌∙◌, ap, subst, arith, append_assoc}
+use Rattle.std.proofs.Common.{◌≡◌, ◌⊎◌, inl, inr, ℕ, ◌+◌, ◌-◌, ◌<◌, ◌≤◌, false, [], ◌∷◌, ◌++◌, length, take, drop, refl, sym, ◌∙◌, ap, subst, arith, append_assoc}
 use Rattle.std.specs.Prelude.{Result, Ok, Err, IfOk, IfErr}
 use Rattle.std.proofs.lemmas.Bool.{cases_lt}
 use Rattle.std.proofs.lemmas.List.{take-append-drop, take-take, take_all, length-take-le, length-drop}
 use Rattle.std.proofs.Math.Seq.{take-length}
-use Rattle.ad_lex.specs.Lexemes.{Lexeme}
 use Rattle.ad_grammar.specs.Shapes.{Text}
 use Rattle.ad_grammar.specs.Faults.{Form, IsOf, Begins, IsFirstFault, IsLongest}
 use Rattle.ad_check.specs.declared.texts.Stop.{Stop}

@@ -1,5 +1,5 @@
 -- The tokens of a phrase whose prefixes are known spell a tree.
-use Rattle.std.proofs.Common.{◌≡◌, ℕ, ◌+◌, ◌-◌, ◌≤◌, Bool, true, false, List, [], ◌∷◌, ◌++◌, take, drop, find, Option, None, Some, is_some, refl, sym, ◌∙◌, ap, subst, arith}
+use Rattle.std.proofs.Common.{◌≡◌, ℕ, ◌+◌, ◌-◌, ◌≤◌, Bool, true, false, List, [], ◌∷◌, take, drop, find, Option, None, Some, is_some, refl, sym, ◌∙◌, ap, subst, arith}
 use Rattle.std.specs.Prelude.{is_none}
 use Rattle.std.specs.Option.{option_map}
 use Rattle.std.proofs.lemmas.Bool.{true≢false}
@@ -24,7 +24,7 @@ use Rattle.ad_build.specs.Lists.{is_unknown}
 use Rattle.ad_build.proofs.Phrases.{properties_read, individuals_read, literals_read, ranges_read}
 use Rattle.ad_build.proofs.ClassPhrases.{classes_read}
 use Rattle.ad_build.proofs.Uniqueness.{once}
-use Rattle.ad_phrases.specs.Phrases.{IsBuilt, IsFirstUnknown, IsUnknownIn, Refuses, RefusesIn}
+use Rattle.ad_phrases.specs.Phrases.{IsBuilt, IsFirstUnknown, Refuses, RefusesIn}
 use Rattle.ad_phrases.specs.declared.phrases.BuildRefused.{BuildRefused}
 use Rattle.ad_phrases.specs.declared.phrases.BuildRefused.TheVariants as refused_by
 
@@ -112,6 +112,10 @@ module _ (words : Words) (text : List ℕ) where
       by_find None is h = absurd (none_not_some at h)
       by_find (Some t) is h = (t, first_found ts t is, some_same at t.from (sym h))
 
+-- what a front of the tokens from one on says
+pub front_says : (text : List ℕ) (tokens : List Token) (from n : ℕ) → lexemes text (take n (drop from tokens)) ≡ take n (drop from (lexemes text tokens))
+front_says text tokens from n = sym (take-map (lexeme text) n (drop from tokens)) ∙ ap (take n) (sym (drop-map (lexeme text) from tokens))
+
 -- the phrase that begins at one token and ends before another
 module _ (text : List ℕ) (tokens : List Token) (from to : ℕ) (order : from ≤ to) where
   phrase_is : drop from (take to tokens) ≡ take (to - from) (drop from tokens)
@@ -120,10 +124,7 @@ module _ (text : List ℕ) (tokens : List Token) (from to : ℕ) (order : from �
       ap (λ n. drop from (take n tokens)) whole ∙ drop-take from (to - from) tokens
 
   phrase_says : lexemes text (drop from (take to tokens)) ≡ take (to - from) (drop from (lexemes text tokens))
-  phrase_says =
-      ap (lexemes text) phrase_is
-      ∙ sym (take-map (lexeme text) (to - from) (drop from tokens))
-      ∙ ap (take (to - from)) (sym (drop-map (lexeme text) from tokens))
+  phrase_says = ap (lexemes text) phrase_is ∙ front_says text tokens from (to - from)
 
   module _ (form : Form) (X : Type 0) (spells : Words → X → Text → Type 0) (r : Reading form X spells) (words : Words) (longest : IsLongest form (drop from (lexemes text tokens)) (to - from)) where
     -- the tree that its tokens spell

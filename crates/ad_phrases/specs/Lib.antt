@@ -1,1 +1,3 @@
 pub mod Phrases
+pub mod Marks
+pub mod Laws

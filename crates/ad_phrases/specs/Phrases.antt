@@ -1,9 +1,6 @@
 -- What is built from the token that a phrase begins at.
-use Rattle.std.specs.Prelude.{◌≡◌, ℕ, ◌-◌, ◌≤◌, false, List, ◌∷◌, ◌++◌, take, drop, slice_get, Option, Some}
-use Rattle.std.specs.Option.{option_map}
+use Rattle.std.specs.Prelude.{◌≡◌, ℕ, ◌-◌, ◌≤◌, false, List, ◌∷◌, ◌++◌, take, drop, Result, Ok, Err}
 use Rattle.ad_lex.specs.Lexemes.{lexeme, lexemes}
-use Rattle.ad_lex.specs.declared.token.Mark.{Mark}
-use Rattle.ad_lex.specs.declared.token.Mark.TheVariants as mark
 use Rattle.ad_lex.specs.declared.token.Token.{Token}
 use Rattle.ad_grammar.specs.Shapes.{Text}
 use Rattle.ad_grammar.specs.Names.{Words}
@@ -46,13 +43,13 @@ abbrev pub RefusesIn : Words → List ℕ → List Token → BuildRefused → Ty
 RefusesIn words text tokens (Prefix at) = (token : Token) × IsFirstUnknown words text tokens token × (at ≡ token.from)
 RefusesIn words text tokens Memory = ⊥
 
--- the mark of the token at a place
-abbrev pub mark_at : List Token → ℕ → Option Mark
-mark_at tokens at = option_map (λ token. token.mark) (slice_get tokens at)
+-- this is built, with the token behind it, or memory was wanting
+abbrev pub IsBuiltOrMemory : {X : Type 0} → Result (X × ℕ) BuildRefused → X → ℕ → Type 0
+IsBuiltOrMemory (Ok built) x to = (built.0 ≡ x) × (built.1 ≡ to)
+IsBuiltOrMemory (Err refused) x to = refused ≡ Memory
 
--- how many tokens a literal is made of, by the marks of the second and the third one that may belong to it
-abbrev pub literal_size : Option Mark → Option Mark → ℕ
-literal_size (Some mark.Lang) third = 2
-literal_size (Some mark.Carets) (Some mark.Iri) = 3
-literal_size (Some mark.Carets) (Some mark.Short) = 3
-literal_size second third = 1
+-- the prefix of a name that begins here is refused, or memory was wanting
+abbrev pub IsPrefixOrMemory : {X : Type 0} → Result (X × ℕ) BuildRefused → ℕ → Type 0
+IsPrefixOrMemory (Ok built) at = ⊥
+IsPrefixOrMemory (Err (Prefix place)) at = place ≡ at
+IsPrefixOrMemory (Err Memory) at = Unit {0}

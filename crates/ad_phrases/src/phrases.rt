@@ -1,6 +1,12 @@
-ghost use Rattle.std.specs.Prelude.{◌≡◌, ◌≤◌, ◌-◌, false, length, take, drop, OnOk, IfOk, IfErr};
+ghost use Rattle.std.specs.Prelude.{◌≡◌, ℕ, ◌≤◌, false, length, drop, OnOk, IfOk, IfErr};
+ghost use Rattle.ad_lex.specs.declared.token.Token.{Token};
 ghost use Rattle.ad_lex.specs.Lexemes.{lexemes};
 ghost use Rattle.ad_lex.specs.Spans.{AreTokensOf};
+ghost use Rattle.ad_tree.specs.declared.names.ObjProp.{ObjProp};
+ghost use Rattle.ad_tree.specs.declared.names.Individual.{Individual};
+ghost use Rattle.ad_tree.specs.declared.literals.Literal.{Literal};
+ghost use Rattle.ad_tree.specs.declared.ranges.Range.{Range};
+ghost use Rattle.ad_tree.specs.declared.classes.Class.{Class};
 ghost use Rattle.ad_grammar.specs.Names.{SpellsProperty, SpellsIndividual, SpellsLiteral};
 ghost use Rattle.ad_grammar.specs.Phrases.{SpellsRange, SpellsClass};
 ghost use Rattle.ad_grammar.specs.Texts.{in_force};
@@ -8,12 +14,11 @@ ghost use Rattle.ad_grammar.specs.Faults as form;
 ghost use Rattle.ad_grammar.specs.Nesting.{nesting};
 ghost use Rattle.ad_grammar_laws.specs.Known.{AreKnown};
 ghost use Rattle.ad_build.specs.Declarations.{declarations};
-ghost use Rattle.ad_phrases.specs.Phrases.{HasPhrase, IsBuilt, Refuses, RefusesIn};
+ghost use Rattle.ad_phrases.specs.Phrases.{HasPhrase, IsBuilt, IsBuiltOrMemory, IsUnknownIn, IsPrefixOrMemory, Refuses, RefusesIn};
 
-use crate::ends::{behind, behind_literal};
+use crate::ends::{behind_class, behind_individual, behind_literal, behind_objprop, behind_range};
 use ad_base::Memory;
 use ad_build::{Prefixes, first_unknown};
-use ad_check::{check_class, check_individual, check_objprop, check_range};
 use ad_lex::{Token, Tokens};
 use ad_tree::{Class, Individual, Literal, ObjProp, Range};
 use std::alloc::Global;
@@ -52,9 +57,11 @@ pub fn build_class(
     requires nesting { nesting (drop from (lexemes text.now tokens.now)) ≤ 128 }
     requires phrase { HasPhrase form.class (drop from (lexemes text.now tokens.now)) }
     ensures built { IfOk result (λ built. IsBuilt form.class (SpellsClass false (in_force (declarations prefixes.now))) (lexemes text.now tokens.now) from built.0 built.1) }
+    ensures complete { (x : Class) (to : ℕ) → IsBuilt form.class (SpellsClass false (in_force (declarations prefixes.now))) (lexemes text.now tokens.now) from x to → IsBuiltOrMemory result x to }
     ensures refused { IfErr result (Refuses form.class (in_force (declarations prefixes.now)) text.now tokens.now from) }
+    ensures first { (token : Token) → IsUnknownIn form.class (in_force (declarations prefixes.now)) text.now tokens.now from token → IsPrefixOrMemory result token.from }
 {
-    let to = behind(check_class(text, tokens, from));
+    let to = behind_class(text, tokens, from);
     let phrase = &tokens.list()[..to as usize];
     known(text, phrase, from as usize, prefixes)?;
     match ad_build::build_class(alloc, text, phrase, from as usize, prefixes)? {
@@ -76,9 +83,11 @@ pub fn build_range(
     requires nesting { nesting (drop from (lexemes text.now tokens.now)) ≤ 128 }
     requires phrase { HasPhrase form.range (drop from (lexemes text.now tokens.now)) }
     ensures built { IfOk result (λ built. IsBuilt form.range (SpellsRange (in_force (declarations prefixes.now))) (lexemes text.now tokens.now) from built.0 built.1) }
+    ensures complete { (x : Range) (to : ℕ) → IsBuilt form.range (SpellsRange (in_force (declarations prefixes.now))) (lexemes text.now tokens.now) from x to → IsBuiltOrMemory result x to }
     ensures refused { IfErr result (Refuses form.range (in_force (declarations prefixes.now)) text.now tokens.now from) }
+    ensures first { (token : Token) → IsUnknownIn form.range (in_force (declarations prefixes.now)) text.now tokens.now from token → IsPrefixOrMemory result token.from }
 {
-    let to = behind(check_range(text, tokens, from));
+    let to = behind_range(text, tokens, from);
     let phrase = &tokens.list()[..to as usize];
     known(text, phrase, from as usize, prefixes)?;
     match ad_build::build_range(alloc, text, phrase, from as usize, prefixes)? {
@@ -100,9 +109,11 @@ pub fn build_objprop(
     requires nesting { nesting (drop from (lexemes text.now tokens.now)) ≤ 128 }
     requires phrase { HasPhrase form.property (drop from (lexemes text.now tokens.now)) }
     ensures built { IfOk result (λ built. IsBuilt form.property (SpellsProperty (in_force (declarations prefixes.now))) (lexemes text.now tokens.now) from built.0 built.1) }
+    ensures complete { (x : ObjProp) (to : ℕ) → IsBuilt form.property (SpellsProperty (in_force (declarations prefixes.now))) (lexemes text.now tokens.now) from x to → IsBuiltOrMemory result x to }
     ensures refused { IfErr result (Refuses form.property (in_force (declarations prefixes.now)) text.now tokens.now from) }
+    ensures first { (token : Token) → IsUnknownIn form.property (in_force (declarations prefixes.now)) text.now tokens.now from token → IsPrefixOrMemory result token.from }
 {
-    let to = behind(check_objprop(text, tokens, from));
+    let to = behind_objprop(text, tokens, from);
     let phrase = &tokens.list()[..to as usize];
     known(text, phrase, from as usize, prefixes)?;
     match ad_build::build_objprop(alloc, text, phrase, from as usize, prefixes)? {
@@ -124,9 +135,11 @@ pub fn build_individual(
     requires nesting { nesting (drop from (lexemes text.now tokens.now)) ≤ 128 }
     requires phrase { HasPhrase form.individual (drop from (lexemes text.now tokens.now)) }
     ensures built { IfOk result (λ built. IsBuilt form.individual (SpellsIndividual (in_force (declarations prefixes.now))) (lexemes text.now tokens.now) from built.0 built.1) }
+    ensures complete { (x : Individual) (to : ℕ) → IsBuilt form.individual (SpellsIndividual (in_force (declarations prefixes.now))) (lexemes text.now tokens.now) from x to → IsBuiltOrMemory result x to }
     ensures refused { IfErr result (Refuses form.individual (in_force (declarations prefixes.now)) text.now tokens.now from) }
+    ensures first { (token : Token) → IsUnknownIn form.individual (in_force (declarations prefixes.now)) text.now tokens.now from token → IsPrefixOrMemory result token.from }
 {
-    let to = behind(check_individual(text, tokens, from));
+    let to = behind_individual(text, tokens, from);
     let phrase = &tokens.list()[..to as usize];
     known(text, phrase, from as usize, prefixes)?;
     match ad_build::build_individual(alloc, text, phrase, from as usize, prefixes)? {
@@ -148,7 +161,9 @@ pub fn build_literal(
     requires nesting { nesting (drop from (lexemes text.now tokens.now)) ≤ 128 }
     requires phrase { HasPhrase form.literal (drop from (lexemes text.now tokens.now)) }
     ensures built { IfOk result (λ built. IsBuilt form.literal (SpellsLiteral (in_force (declarations prefixes.now))) (lexemes text.now tokens.now) from built.0 built.1) }
+    ensures complete { (x : Literal) (to : ℕ) → IsBuilt form.literal (SpellsLiteral (in_force (declarations prefixes.now))) (lexemes text.now tokens.now) from x to → IsBuiltOrMemory result x to }
     ensures refused { IfErr result (Refuses form.literal (in_force (declarations prefixes.now)) text.now tokens.now from) }
+    ensures first { (token : Token) → IsUnknownIn form.literal (in_force (declarations prefixes.now)) text.now tokens.now from token → IsPrefixOrMemory result token.from }
 {
     let to = behind_literal(text, tokens, from);
     let phrase = &tokens.list()[..to as usize];

@@ -3,6 +3,7 @@ ghost use Rattle.ad_lex.specs.Lexemes.{lexemes};
 ghost use Rattle.ad_lex.specs.Spans.{AreTokensOf};
 ghost use Rattle.ad_grammar.specs.Nesting.{nesting};
 
+use crate::laws::one_phrase;
 use crate::phrases::{
     BuildRefused, build_class, build_individual, build_literal, build_objprop, build_range,
 };
@@ -260,22 +261,37 @@ fn literal(
     }
 }
 
-/// What is built from a token of a text on, in words.
-fn shown(alloc: Global, text: &[u8], from: u32, form: Form) -> Result<Vec<u8>, Fail>
-    requires { length text.now < 2 ^ 32 }
+/// What is built from a token of these on, in words.
+fn built(
+    alloc: Global,
+    text: &[u8],
+    tokens: &Tokens,
+    from: u32,
+    form: Form,
+) -> Result<Vec<u8>, Fail>
+    requires { AreTokensOf text.now tokens.now }
 {
-    let found = tokens(alloc, text).map_err(|_| "lexical")?;
     let prefixes = prefixes(alloc)?;
-    let count = found.list().len();
+    let count = tokens.list().len();
     if count > 100 || from as usize > count {
         return Ok(Vec::new(alloc));
     }
     match form {
-        Form::Class => class(alloc, text, &found, from, &prefixes),
-        Form::Range => range(alloc, text, &found, from, &prefixes),
-        Form::Property => property(alloc, text, &found, from, &prefixes),
-        Form::Individual => member(alloc, text, &found, from, &prefixes),
-        Form::Literal => literal(alloc, text, &found, from, &prefixes),
+        Form::Class => class(alloc, text, tokens, from, &prefixes),
+        Form::Range => range(alloc, text, tokens, from, &prefixes),
+        Form::Property => property(alloc, text, tokens, from, &prefixes),
+        Form::Individual => member(alloc, text, tokens, from, &prefixes),
+        Form::Literal => literal(alloc, text, tokens, from, &prefixes),
+    }
+}
+
+/// What is built from a token of a text on, in words.
+fn shown(alloc: Global, text: &[u8], from: u32, form: Form) -> Result<Vec<u8>, Fail>
+    requires { length text.now < 2 ^ 32 }
+{
+    match tokens(alloc, text) {
+        Ok(found) => built(alloc, text, &found, from, form),
+        Err(_) => Ok(Vec::new(alloc)),
     }
 }
 
@@ -317,4 +333,9 @@ fn individuals(rt: HostRuntime) -> Result<(), Fail> {
 #[test]
 fn literals(rt: HostRuntime) -> Result<(), Fail> {
     assert_built(&rt, rt.alloc(), &LITERALS, Form::Literal)
+}
+
+#[test]
+fn laws(_rt: HostRuntime) {
+    one_phrase();
 }
