@@ -39,12 +39,16 @@ HasKey(:Tag () (:code))
 const LOCAL: &str =
     "Ontology(DisjointClasses(<u:A> <u:A>) EquivalentClasses(<u:A>) SubClassOf(ObjectMaxCardinality(0 owl:topObjectProperty owl:Thing) <u:B>) SubClassOf(owl:Thing ObjectExactCardinality(0 owl:bottomObjectProperty)) SubClassOf(<u:C> ObjectMinCardinality(0 <u:r>)))";
 
+/// Data: values of a datatype below a class, a datatype that is defined, and an assertion.
+const DATA: &str =
+    "Ontology(SubClassOf(DataSomeValuesFrom(<u:p> <u:d>) <u:A>) DatatypeDefinition(<u:d> xsd:integer) DataPropertyAssertion(<u:q> <u:i> \"1\"))";
+
 const ONE: &str = "Class(<u:A>)";
 
 /// Documents with seeds, and for each logical axiom in order 1 where it is in the bottom module, the top module and the
 /// star module, and 0 where it isn't.
 #[rattlefmt::skip]
-static MODULES: [(&str, &str, &str, &str, &str); 11] = [
+static MODULES: [(&str, &str, &str, &str, &str); 12] = [
     // the first is above the seed and the second below it, so neither is in both modules
     ("Ontology(SubClassOf(<u:A> <u:B>) SubClassOf(<u:C> <u:A>))", ONE, "10", "01", "00"),
     ("Ontology(SubClassOf(owl:Thing <u:A>))", ONE, "1", "1", "1"),
@@ -64,6 +68,8 @@ static MODULES: [(&str, &str, &str, &str, &str); 11] = [
     ("Ontology(SubClassOf(<u:A> ObjectUnionOf(<u:B> <u:E>)) DisjointClasses(<u:B> <u:C>))", "Class(<u:A>) Class(<u:C>)", "11", "01", "00"),
     // on the top side the third brings in u:B, without which the second is local
     ("Ontology(DisjointClasses(<u:A> <u:C>) SubClassOf(<u:A> <u:B>) SubClassOf(<u:B> <u:C>))", "Class(<u:A>) Class(<u:C>)", "111", "111", "111"),
+    // without u:p nothing has such a value; with u:p for everything what has one is below u:A, and each assertion on u:q holds
+    (DATA, ONE, "011", "110", "010"),
 ];
 
 fn document(alloc: Global, text: &str) -> Result<Batch, Fail> {

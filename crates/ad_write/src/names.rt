@@ -52,7 +52,7 @@ impl Spelled for Entity {
     }
 }
 
-// An anonymous individual by its label.
+/// Writes an anonymous individual: its label behind `_:`.
 pub fn write_anonymous<P: Pen>(pen: &mut P, label: &Word)
     ensures { P.writes pen.old pen.new (canon_anonymous label.now) }
 {
