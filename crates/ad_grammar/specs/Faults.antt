@@ -77,8 +77,13 @@ abbrev pub Tells : Bool → Type 0 → Type 0
 Tells true P = P
 Tells false P = P → ⊥
 
--- the longest front that is a phrase of the form
+-- The longest front that begins a phrase of the form, where it is one: with the token behind it none begins. So a string
+-- that ^^ follows is a part of a longer phrase, or of none.
 pub record IsLongest (form : Form) (ts : Text) (to : ℕ) : Type 0 where
   pub within : to ≤ length ts
   pub phrase : IsOf false form (take to ts)
-  pub longest : (longer : ℕ) → to < longer → longer ≤ length ts → IsOf false form (take longer ts) → ⊥
+  pub over : to < length ts → Begins false form (take (to + 1) ts) → ⊥
+
+-- no phrase of the form begins here
+abbrev pub IsNoPhrase : Form → Text → Type 0
+IsNoPhrase form ts = (to : ℕ) → IsLongest form ts to → ⊥
