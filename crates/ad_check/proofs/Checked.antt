@@ -8,7 +8,7 @@ use Rattle.std.proofs.Math.Seq.{take-length, drop-length}
 use Rattle.ad_lex.specs.Lexemes.{lexeme, lexemes}
 use Rattle.ad_lex.specs.declared.token.Token.{Token}
 use Rattle.ad_grammar.specs.Shapes.{Text}
-use Rattle.ad_grammar.specs.Faults.{Form, IsOf, IsFirstFault, IsWide, IsLongest, Tells}
+use Rattle.ad_grammar.specs.Faults.{Form, IsOf, Begins, IsFirstFault, IsWide, IsLongest, IsNoPhrase, Tells}
 use Rattle.ad_check.specs.declared.items.Item.{Item}
 use Rattle.ad_check.specs.declared.items.Halt.{Halt}
 use Rattle.ad_check.specs.declared.texts.Stop.{Stop}
@@ -16,10 +16,10 @@ use Rattle.ad_check.specs.declared.texts.Unsupported.{Unsupported}
 use Rattle.ad_check.specs.Machine.{step, ends, accepts, fault, go_on, halt, start}
 use Rattle.ad_check.specs.Reads.{Passes, Halts}
 use Rattle.ad_check.specs.Stops.{IsAddition, Says, Names, Checks, ChecksFrom}
-use Rattle.ad_check.proofs.Taken.{none_not_some, accepts_none, accepts_step}
-use Rattle.ad_check.proofs.Wholes.{complete}
+use Rattle.ad_check.proofs.Taken.{none_not_some}
 use Rattle.ad_check.proofs.Sound.{sound}
 use Rattle.ad_check.proofs.FirstFault.{first_fault, wide_fault, whole_is, none_read, halt_is}
+use Rattle.ad_check.proofs.Longest.{none_before, no_phrase}
 
 -- where a reading stops lies within the text, and goes on in the wide grammar only at a token
 pub record Bounds (ts : Text) (at : ℕ) (stop : Halt) : Type 0 where
@@ -133,22 +133,15 @@ phrase_err form ts items from stop answer e h token what =
     let first = q.0 in
     let place : answer.token - from ≡ first.token = omega (arith, token, q.2) in
     let both = checks_err form (drop from ts) items first (record { token = first.token; what = answer.what }) (sym e) q.1 refl (addition_moved ts from stop first answer.what q.2 q.3 what) in
-    (omega (arith, token, q.2), subst (IsFirstFault form (drop from ts)) (sym place) both.0, subst (λ n. Says form (drop from ts) n answer.what) (sym place) both.1)
-
--- what is read to its end doesn't stop
-read_none : (ts : Text) (items : List Item) (at : ℕ) → accepts false items ts ≡ true → fault at items ts ≡ None
-read_none [] items at h = rw h refl
-read_none (t ∷ ts) items at h = by_step (step false items t) refl (read_none ts)
-  where
-    by_step : (o : Option (List Item)) → step false items t ≡ o → ((next : List Item) (at' : ℕ) → accepts false next ts ≡ true → fault at' next ts ≡ None) → go_on (λ next. fault (at + 1) next ts) (halt at (is_some (step true items t))) o ≡ None
-    by_step None e later = absurd (true≢false (sym h ∙ accepts_none false items t ts e))
-    by_step (Some next) e later = later next (at + 1) (sym (accepts_step false items next t ts e) ∙ h)
+    let fault_at : IsFirstFault form (drop from ts) (answer.token - from) = subst (IsFirstFault form (drop from ts)) (sym place) both.0 in
+    let none : accepts false (start form) (take (answer.token - from) (drop from ts)) ≡ false = ap (λ is. accepts false is (take (answer.token - from) (drop from ts))) e ∙ ap (λ n. accepts false items (take (n - from) (drop from ts))) token ∙ (none_before (drop from ts) items from stop h).1 in
+    (omega (arith, token, q.2), no_phrase form (drop from ts) (answer.token - from) fault_at none, fault_at, subst (λ n. Says form (drop from ts) n answer.what) (sym place) both.1)
 
 take_drop : (ts : Text) (n m : ℕ) → take m (drop n ts) ≡ drop n (take (n + m) ts)
 take_drop ts n m = sym (drop-take n m ts)
 
 pub phrase_ok : (form : Form) (ts : Text) (items : List Item) (from to : ℕ) → start form ≡ items → Passes ts items from to → ChecksFrom form ts from (Ok to)
-phrase_ok form ts items from to e p = (p.order, record { within = shorter; phrase = phrase; longest = longest })
+phrase_ok form ts items from to e p = (p.order, record { within = shorter; phrase = phrase; over = over })
   where
     shorter : to - from ≤ length (drop from ts)
     shorter = subst (λ n. to - from ≤ n) (sym (length-drop from ts)) (omega (arith, p.order, p.within))
@@ -161,13 +154,17 @@ phrase_ok form ts items from to e p = (p.order, record { within = shorter; phras
         let front : take (to - from) (drop from ts) ≡ drop from (take to ts) = take_drop ts from (to - from) ∙ ap (λ n. drop from (take n ts)) (omega (arith, p.order)) in
         subst (IsOf false form) (sym front) (sound false form (drop from (take to ts)) (none_read (drop from (take to ts)) (start form) from (read to (omega arith) p.within ∙ ap (fault to []) (drop_over (take to ts) to (sym (length-take-le to ts p.within))))))
 
-    longest : (longer : ℕ) → to - from < longer → longer ≤ length (drop from ts) → IsOf false form (take longer (drop from ts)) → ⊥
-    longest longer above below is =
-        let fits : from + longer ≤ length ts = omega (arith, subst (λ n. longer ≤ n) (length-drop from ts) below, p.order, p.within) in
-        let more : to < from + longer = omega (arith, above, p.order) in
-        let front : take longer (drop from ts) ≡ drop from (take (from + longer) ts) = take_drop ts from longer in
-        let accepted : accepts false (start form) (drop from (take (from + longer) ts)) ≡ true = ap (accepts false (start form)) (sym front) ∙ complete false form (take longer (drop from ts)) is in
-        none_not_some (halt to false) (sym (read_none (drop from (take (from + longer) ts)) (start form) from accepted) ∙ read (from + longer) (omega (arith, more)) fits ∙ over_rest to (drop to (take (from + longer) ts)) (drop_some (take (from + longer) ts) to (subst (λ n. to < n) (sym (length-take-le (from + longer) ts fits)) more)))
+    -- the text that is cut off behind the next token has its first fault at that token
+    over : to - from < length (drop from ts) → Begins false form (take (to - from + 1) (drop from ts)) → ⊥
+    over below begins =
+        let rest : Text = take (to - from + 1) (drop from ts) in
+        let fits : to + 1 ≤ length ts = omega (arith, subst (λ n. to - from < n) (length-drop from ts) below, p.order, p.within) in
+        let front : rest ≡ drop from (take (to + 1) ts) = take_drop ts from (to - from + 1) ∙ ap (λ n. drop from (take n ts)) (omega (arith, p.order)) in
+        let stops : fault from (start form) rest ≡ Some (halt to false) = ap (fault from (start form)) front ∙ read (to + 1) (omega arith) fits ∙ over_rest to (drop to (take (to + 1) ts)) (drop_some (take (to + 1) ts) to (subst (λ n. to < n) (sym (length-take-le (to + 1) ts fits)) (omega arith))) in
+        let q = first_of_rest rest (start form) from (halt to false) stops in
+        let long : length rest ≡ to - from + 1 = length-take-le (to - from + 1) (drop from ts) (omega (arith, below)) in
+        let place : q.0.token + 1 ≡ length rest = omega (arith, q.2, long) in
+        (first_fault form rest q.0 q.1).token (omega (arith, place)) (subst (Begins false form) (sym (ap (λ n. take n rest) place ∙ take-length rest)) begins)
 
 -- the clauses of the public checks
 pub ok_after : (form : Form) (ts : Text) (from : ℕ) (r : Result ℕ Stop) → ChecksFrom form ts from r → IfOk r (λ to. from ≤ to)
@@ -178,17 +175,21 @@ pub ok_longest : (form : Form) (ts : Text) (from : ℕ) (r : Result ℕ Stop) �
 ok_longest form ts from (Ok to) h = h.1
 ok_longest form ts from (Err stop) h = tt
 
+pub err_none : (form : Form) (ts : Text) (from : ℕ) (r : Result ℕ Stop) → ChecksFrom form ts from r → IfErr r (λ stop. IsNoPhrase form (drop from ts))
+err_none form ts from (Ok to) h = tt
+err_none form ts from (Err stop) h = h.1
+
 pub err_after : (form : Form) (ts : Text) (from : ℕ) (r : Result ℕ Stop) → ChecksFrom form ts from r → IfErr r (λ stop. from ≤ stop.token)
 err_after form ts from (Ok to) h = tt
 err_after form ts from (Err stop) h = h.0
 
 pub err_first : (form : Form) (ts : Text) (from : ℕ) (r : Result ℕ Stop) → ChecksFrom form ts from r → IfErr r (λ stop. IsFirstFault form (drop from ts) (stop.token - from))
 err_first form ts from (Ok to) h = tt
-err_first form ts from (Err stop) h = h.1
+err_first form ts from (Err stop) h = h.2
 
 pub err_what : (form : Form) (ts : Text) (from : ℕ) (r : Result ℕ Stop) → ChecksFrom form ts from r → IfErr r (λ stop. Says form (drop from ts) (stop.token - from) stop.what)
 err_what form ts from (Ok to) h = tt
-err_what form ts from (Err stop) h = h.2
+err_what form ts from (Err stop) h = h.3
 
 pub text_ok : {T : Type 0} (form : Form) (ts : Text) (r : Result T Stop) → Checks form ts r → IfOk r (λ done. IsOf false form ts)
 text_ok form ts (Ok done) h = h

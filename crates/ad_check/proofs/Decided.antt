@@ -1,21 +1,20 @@
 -- The laws: what is spelled is of its form, a fault excludes it, there is one first fault, and the nesting.
-use Rattle.std.proofs.Common.{◌≡◌, ◌⊎◌, inl, inr, ℕ, zero, suc, ◌+◌, ◌-◌, ◌<◌, ◌≤◌, false, List, [], ◌∷◌, ◌++◌, length, map, take, drop, refl, sym, ◌∙◌, ap, subst, arith, append_assoc}
+use Rattle.std.proofs.Common.{◌≡◌, ◌⊎◌, inl, inr, ℕ, zero, suc, ◌+◌, ◌<◌, ◌≤◌, false, List, [], ◌∷◌, ◌++◌, length, map, take, drop, refl, sym, ◌∙◌, ap, subst, arith, append_assoc}
 use Rattle.std.proofs.Math.Nat.{eq-or-lt_of_le}
 use Rattle.std.proofs.lemmas.Bool.{cases_lt}
 use Rattle.std.proofs.lemmas.List.{take-append-drop}
 use Rattle.std.proofs.Math.Seq.{take-take}
 use Rattle.ad_lex.specs.Lexemes.{Lexeme}
 use Rattle.ad_lex.specs.Lexemes as says
-use Rattle.ad_tree.specs.declared.entities.Entity.{Entity}
 use Rattle.ad_tree.specs.declared.edits.Op.{Op}
 use Rattle.ad_tree.specs.declared.edits.Sign.{Sign}
 use Rattle.ad_tree.specs.declared.axioms.Noted.{Noted}
 use Rattle.ad_grammar.specs.Shapes.{Text, Many0}
 use Rattle.ad_grammar.specs.Names.{Words}
 use Rattle.ad_grammar.specs.Axioms.{SpellsNoted}
-use Rattle.ad_grammar.specs.Texts.{Declared, in_force, SpellsOp, SpellsDocument, SpellsEdit, SpellsSeed, SpellsSingle}
-use Rattle.ad_grammar.specs.Faults.{Statement, stated, SpellsStatement, SpellsSigned, Form, document, edit, seed, single, IsOf, Begins, IsFirstFault}
-use Rattle.ad_grammar.specs.Nesting.{lefts, rights, open_behind, IsNesting, nesting}
+use Rattle.ad_grammar.specs.Texts.{Declared, in_force, SpellsOp, SpellsDocument}
+use Rattle.ad_grammar.specs.Faults.{Statement, stated, SpellsStatement, SpellsSigned, Form, document, IsOf, Begins, IsFirstFault}
+use Rattle.ad_grammar.specs.Nesting.{lefts, rights, nesting}
 use Rattle.ad_check.specs.Laws.{SpelledIsOf, FaultIsInNone, OneFirstFault, NestingIs}
 
 many_stated : (words : Words) (axioms : List Noted) (ts : Text) → Many0 (SpellsNoted false words) axioms ts → Many0 (SpellsStatement false words) (map stated axioms) ts
@@ -48,7 +47,7 @@ in_none form ts at f is = by_place (eq-or-lt_of_le f.within)
     by_place (inl last) = f.end last is
     by_place (inr below) = f.token below (drop (at + 1) ts, subst (IsOf false form) (sym (take-append-drop (at + 1) ts)) is)
 
-begins_shorter : (form : Form) (ts : Text) (n m : ℕ) → n ≤ m → Begins false form (take m ts) → Begins false form (take n ts)
+pub begins_shorter : (form : Form) (ts : Text) (n m : ℕ) → n ≤ m → Begins false form (take m ts) → Begins false form (take n ts)
 begins_shorter form ts n m before (more, is) =
     let front : take n ts ++ drop n (take m ts) ≡ take m ts = ap (λ us. us ++ drop n (take m ts)) (sym (take-take n m ts before)) ∙ take-append-drop n (take m ts) in
     (drop n (take m ts) ++ more, subst (IsOf false form) (sym (sym (append_assoc (take n ts) (drop n (take m ts)) more) ∙ ap (λ us. us ++ more) front)) is)

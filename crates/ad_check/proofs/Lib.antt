@@ -11,6 +11,7 @@ pub mod Spelled
 pub mod Sound
 pub mod Rests
 pub mod FirstFault
-pub mod Checked
 pub mod Decided
+pub mod Longest
+pub mod Checked
 pub mod Nested

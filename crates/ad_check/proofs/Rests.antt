@@ -78,7 +78,7 @@ abbrev pub well : Bool → List Item → Bool
 well w [] = true
 well w (item ∷ items) = allowed w item && ((not (skips item) || shut_at item (rests items)) && well w items)
 
-both : (a b : Bool) → (a && b) ≡ true → (a ≡ true) × (b ≡ true)
+pub both : (a b : Bool) → (a && b) ≡ true → (a ≡ true) × (b ≡ true)
 both true b e = (refl, e)
 both false b e = absurd (true≢false (sym e))
 

@@ -3,7 +3,7 @@ use Rattle.std.specs.Prelude.{◌≡◌, ◌≢◌, ℕ, ◌-◌, ◌≤◌, tru
 use Rattle.ad_lex.specs.Lexemes.{Lexeme}
 use Rattle.ad_lex.specs.Lexemes as says
 use Rattle.ad_grammar.specs.Shapes.{Text}
-use Rattle.ad_grammar.specs.Faults.{Form, IsOf, IsFirstFault, IsWide, IsLongest}
+use Rattle.ad_grammar.specs.Faults.{Form, IsOf, IsFirstFault, IsWide, IsLongest, IsNoPhrase}
 use Rattle.ad_check.specs.declared.items.Halt.{Halt}
 use Rattle.ad_check.specs.declared.texts.Stop.{Stop}
 use Rattle.ad_check.specs.declared.texts.Unsupported.{Unsupported}
@@ -35,7 +35,7 @@ abbrev pub Checks : {T : Type 0} → Form → Text → Result T Stop → Type 0
 Checks form ts (Ok done) = IsOf false form ts
 Checks form ts (Err stop) = IsFirstFault form ts stop.token × Says form ts stop.token stop.what
 
--- the longest phrase of the form that begins at this token, or the first token at which none goes on
+-- the longest phrase of the form that begins at this token, or, where none does, the first token at which none goes on
 abbrev pub ChecksFrom : Form → Text → ℕ → Result ℕ Stop → Type 0
 ChecksFrom form ts from (Ok to) = (from ≤ to) × IsLongest form (drop from ts) (to - from)
-ChecksFrom form ts from (Err stop) = (from ≤ stop.token) × IsFirstFault form (drop from ts) (stop.token - from) × Says form (drop from ts) (stop.token - from) stop.what
+ChecksFrom form ts from (Err stop) = (from ≤ stop.token) × IsNoPhrase form (drop from ts) × IsFirstFault form (drop from ts) (stop.token - from) × Says form (drop from ts) (stop.token - from) stop.what

@@ -1,7 +1,7 @@
 ghost use Rattle.std.specs.Prelude.{◌≡◌, ◌≤◌, ◌<◌, ◌-◌, ◌^◌, true, false, drop, length, IfOk, IfErr, [], ◌∷◌};
 ghost use Rattle.ad_lex.specs.Lexemes.{lexeme, lexemes};
 ghost use Rattle.ad_lex.specs.Spans.{AreTokensOf, IsTokenOf};
-ghost use Rattle.ad_grammar.specs.Faults.{Form, IsOf, IsFirstFault, IsLongest};
+ghost use Rattle.ad_grammar.specs.Faults.{Form, IsOf, IsFirstFault, IsLongest, IsNoPhrase};
 ghost use Rattle.ad_grammar.specs.Faults as form;
 ghost use Rattle.ad_grammar.specs.Nesting.{nesting};
 ghost use Rattle.ad_check.specs.Machine.{start};
@@ -110,6 +110,7 @@ pub fn check_class(text: &[u8], tokens: &Tokens, from: u32) -> Result<u32, Stop>
     requires nesting { nesting (drop from (lexemes text.now tokens.now)) ≤ 128 }
     ensures after { IfOk result (λ to. from ≤ to) }
     ensures longest { IfOk result (λ to. IsLongest form.class (drop from (lexemes text.now tokens.now)) (to - from)) }
+    ensures none { IfErr result (λ stop. IsNoPhrase form.class (drop from (lexemes text.now tokens.now))) }
     ensures stop { IfErr result (λ stop. from ≤ stop.token) }
     ensures first { IfErr result (λ stop. IsFirstFault form.class (drop from (lexemes text.now tokens.now)) (stop.token - from)) }
     ensures what { IfErr result (λ stop. Says form.class (drop from (lexemes text.now tokens.now)) (stop.token - from) stop.what) }
@@ -124,6 +125,7 @@ pub fn check_range(text: &[u8], tokens: &Tokens, from: u32) -> Result<u32, Stop>
     requires nesting { nesting (drop from (lexemes text.now tokens.now)) ≤ 128 }
     ensures after { IfOk result (λ to. from ≤ to) }
     ensures longest { IfOk result (λ to. IsLongest form.range (drop from (lexemes text.now tokens.now)) (to - from)) }
+    ensures none { IfErr result (λ stop. IsNoPhrase form.range (drop from (lexemes text.now tokens.now))) }
     ensures stop { IfErr result (λ stop. from ≤ stop.token) }
     ensures first { IfErr result (λ stop. IsFirstFault form.range (drop from (lexemes text.now tokens.now)) (stop.token - from)) }
     ensures what { IfErr result (λ stop. Says form.range (drop from (lexemes text.now tokens.now)) (stop.token - from) stop.what) }
@@ -138,6 +140,7 @@ pub fn check_objprop(text: &[u8], tokens: &Tokens, from: u32) -> Result<u32, Sto
     requires nesting { nesting (drop from (lexemes text.now tokens.now)) ≤ 128 }
     ensures after { IfOk result (λ to. from ≤ to) }
     ensures longest { IfOk result (λ to. IsLongest form.property (drop from (lexemes text.now tokens.now)) (to - from)) }
+    ensures none { IfErr result (λ stop. IsNoPhrase form.property (drop from (lexemes text.now tokens.now))) }
     ensures stop { IfErr result (λ stop. from ≤ stop.token) }
     ensures first { IfErr result (λ stop. IsFirstFault form.property (drop from (lexemes text.now tokens.now)) (stop.token - from)) }
     ensures what { IfErr result (λ stop. Says form.property (drop from (lexemes text.now tokens.now)) (stop.token - from) stop.what) }
@@ -152,6 +155,7 @@ pub fn check_individual(text: &[u8], tokens: &Tokens, from: u32) -> Result<u32, 
     requires nesting { nesting (drop from (lexemes text.now tokens.now)) ≤ 128 }
     ensures after { IfOk result (λ to. from ≤ to) }
     ensures longest { IfOk result (λ to. IsLongest form.individual (drop from (lexemes text.now tokens.now)) (to - from)) }
+    ensures none { IfErr result (λ stop. IsNoPhrase form.individual (drop from (lexemes text.now tokens.now))) }
     ensures stop { IfErr result (λ stop. from ≤ stop.token) }
     ensures first { IfErr result (λ stop. IsFirstFault form.individual (drop from (lexemes text.now tokens.now)) (stop.token - from)) }
     ensures what { IfErr result (λ stop. Says form.individual (drop from (lexemes text.now tokens.now)) (stop.token - from) stop.what) }
@@ -167,6 +171,7 @@ pub fn check_literal(text: &[u8], tokens: &Tokens, from: u32) -> Result<u32, Sto
     requires nesting { nesting (drop from (lexemes text.now tokens.now)) ≤ 128 }
     ensures after { IfOk result (λ to. from ≤ to) }
     ensures longest { IfOk result (λ to. IsLongest form.literal (drop from (lexemes text.now tokens.now)) (to - from)) }
+    ensures none { IfErr result (λ stop. IsNoPhrase form.literal (drop from (lexemes text.now tokens.now))) }
     ensures stop { IfErr result (λ stop. from ≤ stop.token) }
     ensures first { IfErr result (λ stop. IsFirstFault form.literal (drop from (lexemes text.now tokens.now)) (stop.token - from)) }
     ensures what { IfErr result (λ stop. Says form.literal (drop from (lexemes text.now tokens.now)) (stop.token - from) stop.what) }

@@ -1,28 +1,20 @@
 -- One tree is built from a token on, or one name is refused.
-use Rattle.std.proofs.Common.{◌≡◌, ◌⊎◌, inl, inr, ℕ, ◌-◌, ◌<◌, ◌≤◌, List, [], ◌∷◌, ◌++◌, take, drop, refl, sym, ◌∙◌, ap, subst, arith}
+use Rattle.std.proofs.Common.{◌≡◌, ℕ, ◌-◌, ◌≤◌, List, [], ◌∷◌, ◌++◌, take, drop, refl, sym, ◌∙◌, ap, subst, arith}
 use Rattle.std.specs.Prelude.{Result, Ok, Err, IfOk, IfErr}
-use Rattle.std.proofs.lemmas.Bool.{cases_lt}
 use Rattle.std.proofs.lemmas.List.{map-append}
 use Rattle.ad_lex.specs.Lexemes.{lexeme, lexemes}
 use Rattle.ad_lex.specs.declared.token.Token.{Token}
 use Rattle.ad_grammar.specs.Shapes.{Text}
 use Rattle.ad_grammar.specs.Names.{Words}
-use Rattle.ad_grammar.specs.Faults.{Form, IsLongest}
+use Rattle.ad_grammar.specs.Faults.{Form}
 use Rattle.ad_grammar_laws.specs.Known.{IsKnown, AreKnown}
 use Rattle.ad_grammar_laws.proofs.Words.{known_second}
+use Rattle.ad_check.proofs.Longest.{one_end}
 use Rattle.ad_phrases.specs.Phrases.{IsBuilt, IsBuiltOrMemory, IsUnknownIn, IsPrefixOrMemory, Refuses}
 use Rattle.ad_phrases.specs.Laws.{IsBuiltOnce, IsNotRefused, IsRefusedOnce}
 use Rattle.ad_phrases.specs.declared.phrases.BuildRefused.{BuildRefused}
 use Rattle.ad_phrases.specs.declared.phrases.BuildRefused.TheVariants as refused_by
 use Rattle.ad_phrases.proofs.Trees.{Reading, front_says}
-
-longest_once : (form : Form) (ts : Text) (n m : ℕ) → IsLongest form ts n → IsLongest form ts m → n ≡ m
-longest_once form ts n m h h' = by_order (cases_lt n m) (cases_lt m n)
-  where
-    by_order : (n < m) ⊎ (m ≤ n) → (m < n) ⊎ (n ≤ m) → n ≡ m
-    by_order (inl less) q = absurd (h.longest m less h'.within h'.phrase)
-    by_order (inr p) (inl less) = absurd (h'.longest n less h.within h.phrase)
-    by_order (inr p) (inr q) = omega (arith, p, q)
 
 -- the first token whose prefix isn't known
 unknown_not_known : (words : Words) (text : List ℕ) (ts before behind : List Token) (token : Token) → ts ≡ before ++ token ∷ behind → AreKnown words (lexemes text ts) → IsKnown words (lexeme text token)
@@ -37,7 +29,7 @@ first_once words text (a ∷ before) (b ∷ before') behind behind' t u k k' not
 
 unknown_once : (form : Form) (words : Words) (text : List ℕ) (tokens : List Token) (from : ℕ) (t u : Token) → IsUnknownIn form words text tokens from t → IsUnknownIn form words text tokens from u → t ≡ u
 unknown_once form words text tokens from t u h h' =
-    let size : h.size ≡ h'.size = longest_once form (drop from (lexemes text tokens)) h.size h'.size h.longest h'.longest in
+    let size : h.size ≡ h'.size = one_end form (drop from (lexemes text tokens)) h.size h'.size h.longest h'.longest in
     first_once words text h.first.before h'.first.before h.first.behind h'.first.behind t u h.first.known h'.first.known h.first.unknown h'.first.unknown (sym h.first.is ∙ ap (λ n. take n (drop from tokens)) size ∙ h'.first.is)
 
 same_end : (from to other : ℕ) → from ≤ to → from ≤ other → to - from ≡ other - from → to ≡ other
@@ -46,13 +38,13 @@ same_end from to other a b e = omega (arith, a, b, e)
 module _ (form : Form) (X : Type 0) (spells : Words → X → Text → Type 0) (r : Reading form X spells) where
   pub built_once : IsBuiltOnce form spells
   built_once words ts from x y to other h h' =
-      let size : to - from ≡ other - from = longest_once form (drop from ts) (to - from) (other - from) h.longest h'.longest in
+      let size : to - from ≡ other - from = one_end form (drop from ts) (to - from) (other - from) h.longest h'.longest in
       (r.one words x y (take (to - from) (drop from ts)) h.spelled (subst (λ n. spells words y (take n (drop from ts))) (sym size) h'.spelled), same_end from to other h.after h'.after size)
 
   not_unknown : (words : Words) (text : List ℕ) (tokens : List Token) (from : ℕ) (x : X) (to : ℕ) (token : Token) → IsBuilt form (spells words) (lexemes text tokens) from x to → IsUnknownIn form words text tokens from token → ⊥
   not_unknown words text tokens from x to token h u =
       let ts : Text = drop from (lexemes text tokens) in
-      let size : to - from ≡ u.size = longest_once form ts (to - from) u.size h.longest u.longest in
+      let size : to - from ≡ u.size = one_end form ts (to - from) u.size h.longest u.longest in
       let known : AreKnown words (take (to - from) ts) = (r.moves words words x (take (to - from) ts) h.spelled).0 in
       u.first.unknown (unknown_not_known words text (take u.size (drop from tokens)) u.first.before u.first.behind token u.first.is (subst (AreKnown words) (ap (λ n. take n ts) size ∙ sym (front_says text tokens from u.size)) known))
 

@@ -1,17 +1,17 @@
 -- What is built from the token that a phrase begins at.
-use Rattle.std.specs.Prelude.{◌≡◌, ℕ, ◌-◌, ◌≤◌, false, List, ◌∷◌, ◌++◌, take, drop, Result, Ok, Err}
+use Rattle.std.specs.Prelude.{◌≡◌, ℕ, ◌-◌, ◌≤◌, List, ◌∷◌, ◌++◌, take, drop, Result, Ok, Err}
 use Rattle.ad_lex.specs.Lexemes.{lexeme, lexemes}
 use Rattle.ad_lex.specs.declared.token.Token.{Token}
 use Rattle.ad_grammar.specs.Shapes.{Text}
 use Rattle.ad_grammar.specs.Names.{Words}
-use Rattle.ad_grammar.specs.Faults.{Form, IsOf, IsLongest}
+use Rattle.ad_grammar.specs.Faults.{Form, IsLongest}
 use Rattle.ad_grammar_laws.specs.Known.{IsKnown, AreKnown}
 use Rattle.ad_phrases.specs.declared.phrases.BuildRefused.{BuildRefused}
 use Rattle.ad_phrases.specs.declared.phrases.BuildRefused.TheVariants.{Prefix, Memory}
 
--- some of the tokens from the first one on are a phrase of the form
+-- a phrase of the form begins here, as the checks find it
 abbrev pub HasPhrase : Form → Text → Type 0
-HasPhrase form ts = (n : ℕ) × IsOf false form (take n ts)
+HasPhrase form ts = (size : ℕ) × IsLongest form ts size
 
 -- the longest phrase of the form that begins at a token ends before another one, and spells this
 pub record IsBuilt {X : Type 0} (form : Form) (spells : X → Text → Type 0) (ts : Text) (from : ℕ) (x : X) (to : ℕ) : Type 0 where

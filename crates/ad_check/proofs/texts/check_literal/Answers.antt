@@ -2,7 +2,7 @@ use Rattle.std.proofs.Common.{refl, subst}
 use Rattle.ad_lex.specs.Lexemes.{lexemes}
 use Rattle.ad_grammar.specs.Faults as form
 use Rattle.ad_check.specs.Stops.{ChecksFrom}
-use Rattle.ad_check.proofs.Checked.{ok_after, ok_longest, err_after, err_first, err_what}
+use Rattle.ad_check.proofs.Checked.{ok_after, ok_longest, err_none, err_after, err_first, err_what}
 use Rattle.ad_check.proofs.texts.check_literal.Goals as goal
 
 pub returns : goal.returns
@@ -12,6 +12,7 @@ returns c =
     record {
       after = ok_after form.literal ts c.args.from c.check_phrase.result checks;
       longest = ok_longest form.literal ts c.args.from c.check_phrase.result checks;
+      none = err_none form.literal ts c.args.from c.check_phrase.result checks;
       stop = err_after form.literal ts c.args.from c.check_phrase.result checks;
       first = err_first form.literal ts c.args.from c.check_phrase.result checks;
       what = err_what form.literal ts c.args.from c.check_phrase.result checks;
