@@ -1,19 +1,12 @@
 -- The causes for which documents are refused.
-use Rattle.std.proofs.Common.{◌≡◌, ℕ, List, [], sym, ◌∙◌, ap, subst}
-use Rattle.std.specs.Prelude.{Option, Some, None, ◌≢◌}
-use Rattle.ad_base.specs.declared.limits.Limits.{Limits}
+use Rattle.std.proofs.Common.{◌≡◌, ℕ, List, [], sym, ◌∙◌, ap}
+use Rattle.std.specs.Prelude.{Option, Some, None}
 use Rattle.ad_base.specs.declared.limits.Which.{Which}
 use Rattle.ad_edition.specs.Apply.{applied}
-use Rattle.ad_edition.specs.Edition.{Held, first_of_all, IsRefusal}
 use Rattle.ad_edition.specs.Limit.{Passed, passed}
-use Rattle.ad_edition.specs.declared.receipts.Refused.{Refused}
-use Rattle.ad_edition.specs.declared.receipts.Refused.TheVariants as limited
 use Rattle.ad_grammar.specs.Faults.{document}
 use Rattle.ad_read.specs.Laws.{SpellsOnce, IsNotRefused, IsRefusedOnce}
-use Rattle.ad_read.specs.Outcome.{Refuses}
-use Rattle.ad_read.specs.Texts.{IsDocument, SpellsAdditions}
-use Rattle.ad_read.specs.declared.texts.ReadRefused.{ReadRefused}
-use Rattle.ad_read.specs.declared.texts.ReadRefused.TheVariants as causes
+use Rattle.ad_read.specs.Texts.{SpellsAdditions}
 use Rattle.ad_read.proofs.Outcomes.{documents, text_once, text_refused}
 use Rattle.ad_reply.specs.declared.refusal.Refusal.TheVariants as refusals
 use Rattle.ad_tree.specs.declared.edits.Op.{Op}
@@ -65,14 +58,3 @@ module _ (once : SpellsOnce document SpellsAdditions) (is_read : IsNotRefused do
 -- so it is of every text
 pub apart : IsOntologyOrUnfit
 apart = ontology_or_unfit (text_once _ (List Op) SpellsAdditions documents) (λ limit text x refused h. text_refused _ (List Op) SpellsAdditions documents limit text x h refused)
-
--- the text is no document
-pub no_document : (text : List ℕ) (cause : ReadRefused) (l : Limits) → l ≡ standard → cause ≢ causes.Memory → Refuses document l.depth text cause → IsUnfitFor text (refusals.Text cause)
-no_document text cause l is other h = (other, subst (λ x. Refuses document x.depth text cause) is h)
-
--- its operations pass a limit of the first edition
-pub refused_past : (text : List ℕ) (ops : List Op) (edition : Held) (l : Limits) (cause : Refused) (number : ℕ) (which : Which) (count : ℕ)
-    → edition ≡ first_of_all l → l ≡ standard → IsDocument l.depth text ops → cause ≡ limited.Limit number which count → IsRefusal edition ops cause → IsUnfitFor text (refusals.Limit number which count)
-refused_past text ops edition l cause number which count first is spelled limit h =
-    let past = subst (λ x. IsRefusal (first_of_all l) ops x) limit (subst (λ e. IsRefusal e ops cause) first h) in
-    (past.0, ops, subst (λ x. IsDocument x.depth text ops) is spelled, ap (λ x. passed x 0 (applied [] ops)) (sym is) ∙ past.1)

@@ -1,5 +1,5 @@
 pub mod WordLemmas
-pub mod OntologyLemmas
+pub mod StandardLimits
 pub mod CauseLemmas
 pub mod NoteLemmas
 pub mod RunLemmas

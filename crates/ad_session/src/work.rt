@@ -1,4 +1,4 @@
-ghost use Rattle.std.specs.Prelude.{◌≡◌};
+ghost use Rattle.std.specs.Prelude.{◌≡◌, [], IfOk};
 
 use ad_base::{Limits, Memory};
 use ad_items::Line;
@@ -41,8 +41,10 @@ pub struct Work {
 }
 
 impl Work {
-    /// All the memory is taken here.
-    pub fn new(alloc: Global, _limits: &Limits) -> Result<Work, Memory> {
+    /// No line is read yet. All the memory is taken here.
+    pub fn new(alloc: Global, _limits: &Limits) -> Result<Work, Memory>
+        ensures { IfOk result (λ work. work.line ≡ []) }
+    {
         Ok(Work {
             line: Line::new(alloc)?,
         })

@@ -4,7 +4,7 @@ use Rattle.ad_session.specs.Flows.{flow}
 use Rattle.ad_session.specs.Ends.{SessionIs}
 use Rattle.ad_run.specs.Scripts.{ScriptEnds}
 use Rattle.ad_run.proofs.EndLemmas.{session_ends}
-use Rattle.ad_run.proofs.OntologyLemmas.{standard_is}
+use Rattle.ad_run.proofs.StandardLimits.{standard_is}
 use Rattle.ad_run.proofs.script.run_script.Goals as goal
 
 pub returns-clause-ends : goal.returns-clause-ends
