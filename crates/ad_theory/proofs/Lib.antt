@@ -7,3 +7,4 @@ pub mod StarLemmas
 pub mod ChangeLemmas
 pub mod KindLemmas
 pub mod NumberLemmas
+pub mod RowLemmas

@@ -6,4 +6,5 @@ pub mod Alternation
 pub mod Change
 pub mod Tally
 pub mod Numbers
+pub mod Rows
 pub mod Example

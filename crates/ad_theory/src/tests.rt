@@ -2,9 +2,11 @@ ghost use Rattle.std.specs.Prelude.{◌≡◌, ◌<◌, [], ◌∷◌, length};
 ghost use Rattle.ad_theory.specs.Tally.{IsRaisedBy};
 ghost use Rattle.std.proofs.Common.{rules};
 
-use crate::{Tally, Universe, empty_row, laws};
-use ad_base::Side;
+use crate::{Atoms, Results, Rows, Tally, Universe, empty_row, laws};
+use ad_base::{Kind, Memory, Side};
 use ad_bits::Row;
+use std::alloc::Global;
+use std::sync::Arc;
 use std::test::Fail;
 
 /// Slots 0 and 1 hold axioms. Each has one symbol, its own number, and is local where that isn't seen.
@@ -106,6 +108,61 @@ fn a_tally(rt: HostRuntime) {
     sum.add(&tally);
     assert_eq!(rt; sum.tests(), 2);
     assert_eq!(rt; sum.runs(), 1);
+}
+
+/// A row of three with this member.
+fn row_with(alloc: Global, member: u32) -> Result<Row, Memory>
+    requires { member < 3 }
+{
+    let mut row = empty_row(alloc, 3)?;
+    row.set(member);
+    Ok(row)
+}
+
+/// The first member of a row, where there is a row that has one.
+fn first_of(row: Option<&Row>) -> Option<u32> {
+    row?.next(0)
+}
+
+#[test]
+fn rows_of_slots(rt: HostRuntime) -> Result<(), Fail> {
+    let mut rows = Rows::new(rt.alloc(), 3)?;
+    let row = Arc::new(rt.alloc(), row_with(rt.alloc(), 2)?)?;
+    rows.put(Kind::Star, 0, Arc::try_clone(&row)?);
+    rows.put(Kind::Top, 1, row);
+    assert_eq!(rt; first_of(rows.row(Kind::Top, 1)), Some(2));
+    assert_eq!(rt; first_of(rows.row(Kind::Star, 0)), Some(2));
+    assert_eq!(rt; first_of(rows.row(Kind::Star, 1)), None);
+    assert_eq!(rt; first_of(rows.row(Kind::Bottom, 1)), None);
+    assert_eq!(rt; first_of(rows.row(Kind::Top, 3)), None);
+    Ok(())
+}
+
+#[test]
+fn rows_of_tasks(rt: HostRuntime) -> Result<(), Fail> {
+    let mut results = Results::empty(rt.alloc());
+    results.push(rt.alloc(), row_with(rt.alloc(), 1)?)?;
+    results.push(rt.alloc(), row_with(rt.alloc(), 0)?)?;
+    assert_eq!(rt; first_of(Some(results.row(0))), Some(1));
+    let shared = results.share(1)?;
+    assert_eq!(rt; first_of(Some(&shared)), Some(0));
+    Ok(())
+}
+
+#[test]
+fn some_atoms(rt: HostRuntime) -> Result<(), Fail> {
+    let atom_of = vec![in rt.alloc(); Some(1), None, Some(0), Some(0)]?;
+    let firsts = vec![in rt.alloc(); 3, 0]?;
+    let sizes = vec![in rt.alloc(); 2, 1]?;
+    let atoms = Atoms::of(atom_of, firsts, sizes, 1);
+    assert_eq!(rt; atoms.count(), 2);
+    assert_eq!(rt; atoms.tautologies(), 1);
+    assert_eq!(rt; atoms.first(0), 3);
+    assert_eq!(rt; atoms.size_of(0), 2);
+    assert_eq!(rt; atoms.atom_of(0), Some(1));
+    assert_eq!(rt; atoms.atom_of(1), None);
+    assert_eq!(rt; atoms.atom_of(4), None);
+    Ok(())
 }
 
 #[test]
