@@ -7,4 +7,5 @@ pub mod StarLemmas
 pub mod ChangeLemmas
 pub mod KindLemmas
 pub mod NumberLemmas
+pub mod GenuineLemmas
 pub mod RowLemmas

@@ -7,4 +7,5 @@ pub mod Change
 pub mod Tally
 pub mod Numbers
 pub mod Rows
+pub mod Genuine
 pub mod Example

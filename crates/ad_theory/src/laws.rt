@@ -11,6 +11,7 @@ ghost use Rattle.ad_theory.specs.Change.{IsChange, IsUntouched, IsStarUntouched}
 ghost use Rattle.ad_theory.specs.Module.{Logic, IsAntitone, IsModule, IsStar};
 ghost use Rattle.ad_theory.specs.Listed.{IsListedModule, IsListedStar, IsLiteralModule, IsEqualityTest};
 ghost use Rattle.ad_theory.specs.Numbers.{logic_of, IsNumberedModule};
+ghost use Rattle.ad_theory.specs.Genuine.{IsGenuine, IsNoTautology};
 
 use crate::universe::Universe;
 
@@ -100,4 +101,20 @@ pub fn numbered<U: Universe>()
         IsModule (logic_of (U.symbols_of u) (U.is_local u side)) seed (λ i. IsTrue (U.is_live u i) × IsTrue (within i)) M S →
         IsModule (logic_of (U.symbols_of u) (U.is_local u side)) more (λ i. IsTrue (U.is_live u i) × IsTrue (wider i)) N R →
         (i : ℕ) → IsTrue (M i) → IsTrue (N i) }
+{}
+
+/// A genuine module contains the genuine module of each of its axioms. So two axioms that are in the genuine modules of
+/// each other have the same one.
+pub fn nested<U: Universe>()
+    ensures { (u : U) (kind : Kind) (i k : ℕ) (M N : ℕ → Bool) →
+        IsGenuine kind (U.symbols_of u) (U.is_local u) (U.is_live u) i M → IsTrue (M k) →
+        IsGenuine kind (U.symbols_of u) (U.is_local u) (U.is_live u) k N →
+        (j : ℕ) → IsTrue (N j) → IsTrue (M j) }
+{}
+
+/// A live axiom is in its own genuine module exactly where it is no tautology.
+pub fn tautologies<U: Universe>()
+    ensures { (u : U) (kind : Kind) (i : ℕ) (M : ℕ → Bool) → IsTrue (U.is_live u i) →
+        IsGenuine kind (U.symbols_of u) (U.is_local u) (U.is_live u) i M →
+        IsTrue (M i) ↔ IsNoTautology kind (U.symbols_of u) (U.is_local u) i }
 {}

@@ -175,4 +175,7 @@ fn the_laws() {
     laws::alternation::<u32, u32>();
     laws::side_kept::<u32, u32>();
     laws::star_kept::<u32, u32>();
+    laws::numbered::<Loose>();
+    laws::nested::<Loose>();
+    laws::tautologies::<Loose>();
 }
