@@ -19,11 +19,15 @@ pub struct Rows {
 }
 
 impl Model for Rows {
+    ghost use Rattle.std.specs.Prelude.{◌≡◌, ◌<◌, ◌^◌, length};
     ghost use Rattle.ad_theory.specs.Rows.{Tables, rows_in};
 
     ghost Value = { Tables };
 
     ghost view = { λ rows. record { bottom = rows_in rows.bottom.items; top = rows_in rows.top.items; star = rows_in rows.star.items } };
+
+    ghost invariant = { λ rows. (length rows.bottom.items < 2 ^ 32) × (length rows.top.items ≡ length rows.bottom.items)
+        × (length rows.star.items ≡ length rows.bottom.items) };
 }
 
 /// So many slots without a row.
@@ -55,6 +59,13 @@ impl Rows {
             top: no_rows(alloc, slots)?,
             star: no_rows(alloc, slots)?,
         })
+    }
+
+    /// How many slots there are.
+    pub fn slots(&self) -> u32
+        ensures { (kind : Kind) → length (of_kind self.now kind) ≡ result }
+    {
+        self.bottom.len() as u32
     }
 
     /// The row of the kind of a slot; None exactly where it has none.

@@ -130,6 +130,7 @@ fn rows_of_slots(rt: HostRuntime) -> Result<(), Fail> {
     let row = Arc::new(rt.alloc(), row_with(rt.alloc(), 2)?)?;
     rows.put(Kind::Star, 0, Arc::try_clone(&row)?);
     rows.put(Kind::Top, 1, row);
+    assert_eq!(rt; rows.slots(), 3);
     assert_eq!(rt; first_of(rows.row(Kind::Top, 1)), Some(2));
     assert_eq!(rt; first_of(rows.row(Kind::Star, 0)), Some(2));
     assert_eq!(rt; first_of(rows.row(Kind::Star, 1)), None);
