@@ -1,0 +1,4 @@
+pub mod Firsts
+pub mod Depends
+pub mod Classes
+pub mod Nests
