@@ -1,1 +1,4 @@
+pub mod RowLemmas
 pub mod ReductionLemmas
+pub mod NumberingLemmas
+pub mod CoverLemmas

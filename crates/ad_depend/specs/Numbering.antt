@@ -5,7 +5,7 @@ use Rattle.ad_bits.specs.Rows.{has}
 use Rattle.ad_theory.specs.Rows.{Tables, Numbered, of_kind}
 use Rattle.ad_decomposition.specs.Atoms.{AreAtoms, depends_strictly, firsts}
 use Rattle.ad_decomposition.specs.Tables.{AreNested, HaveRows, is_in_row_of}
-use Rattle.ad_depend.specs.Reduction.{AreSquare, is_in_row}
+use Rattle.ad_depend.specs.Reduction.{AreSquare}
 
 -- the atoms are those of the ontology's axioms in this order, whose rows the tables hold
 pub record AreAtomsOfOrder (tables : Tables) (kind : Kind) (order : List ℕ) (atoms : Numbered) : Type 0 where

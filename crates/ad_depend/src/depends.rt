@@ -24,8 +24,7 @@ fn add(row: &mut Row, atom: Option<u32>, but: u32)
 
 // The atoms in which the members stand, as a row over the atoms, without `but`.
 fn atoms_of(alloc: Global, members: &Row, atoms: &Atoms, but: u32) -> Result<Row, Memory>
-    requires { (s j : ℕ) → IsTrue (has members.now s) → slice_index_or atoms.now.atom_of s None ≡ Some j →
-        j < length atoms.now.firsts }
+    requires { (s j : ℕ) → slice_index_or atoms.now.atom_of s None ≡ Some j → j < length atoms.now.firsts }
     ensures size { IfOk result (λ row. length row ≡ length atoms.now.firsts) }
     ensures atoms { IfOk result (λ row. (j : ℕ) → IsTrue (has row j) ↔ StandsIn members.now atoms.now.atom_of but j) }
 {

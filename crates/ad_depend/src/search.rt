@@ -21,7 +21,7 @@ pub fn covers(alloc: Global, rows: &Rows, kind: Kind, atoms: &Atoms) -> Result<C
     ensures tops { (order : List ℕ) → HaveRows rows.now kind (length (of_kind rows.now kind)) order →
         AreNested (is_in_row_of rows.now kind) order → AreAtoms (is_in_row_of rows.now kind) order atoms.now →
         IfOk result (λ found. (j d : ℕ) → j < length found.rows →
-            has found.tops j ≡ is_top (is_in_row_of rows.now kind) order (slice_index_or atoms.now.firsts j d)) }
+        has found.tops j ≡ is_top (is_in_row_of rows.now kind) order (slice_index_or atoms.now.firsts j d)) }
 {
     let depends = dependencies(alloc, rows, kind, atoms)?;
     let tops = uncovered(alloc, &depends)?;
