@@ -24,9 +24,6 @@ module _ (rows : List (List Bool)) (a : ℕ) (transitive : IsTransitive rows) wh
     )) out)
   ]
 
-  pub reduced_none : (row : List Bool) → ((b : ℕ) → has row b ≡ is_in_row rows a b) → IsReducedBelow rows a 0 row
-  reduced_none row same b = (λ t. (sym (same b) ∙ t, λ c below. absurd (omega arith)), λ h. same b ∙ h.0)
-
   pub reduced_more : (from next : ℕ) (row new : List Bool) → IsReducedBelow rows a from row → IsLeastFrom row from next →
       ((b : ℕ) → has new b ≡ (has row b && not (is_in_row rows next b))) → IsReducedBelow rows a (next + 1) new
   reduced_more from next row new left least minus b = (

@@ -13,7 +13,8 @@ use std::alloc::Global;
 fn add(row: &mut Row, atom: Option<u32>, but: u32)
     requires { ForSome atom (λ j. j < length row.old) }
     ensures size { length row.new ≡ length row.old }
-    ensures atom { (j : ℕ) → IsTrue (has row.new j) ↔ (IsTrue (has row.old j) ⊎ ((j ≢ but) × (atom ≡ Some j))) }
+    ensures atom { (j : ℕ) →
+        IsTrue (has row.new j) ↔ (IsTrue (has row.old j) ⊎ ((j ≢ but) × (atom ≡ Some j))) }
 {
     if let Some(atom) = atom {
         if atom != but {
@@ -24,9 +25,11 @@ fn add(row: &mut Row, atom: Option<u32>, but: u32)
 
 // The atoms in which the members stand, as a row over the atoms, without `but`.
 fn atoms_of(alloc: Global, members: &Row, atoms: &Atoms, but: u32) -> Result<Row, Memory>
-    requires { (s j : ℕ) → slice_index_or atoms.now.atom_of s None ≡ Some j → j < length atoms.now.firsts }
+    requires { (s j : ℕ) → slice_index_or atoms.now.atom_of s None ≡ Some j →
+        j < length atoms.now.firsts }
     ensures size { IfOk result (λ row. length row ≡ length atoms.now.firsts) }
-    ensures atoms { IfOk result (λ row. (j : ℕ) → IsTrue (has row j) ↔ StandsIn members.now atoms.now.atom_of but j) }
+    ensures atoms { IfOk result (λ row. (j : ℕ) →
+        IsTrue (has row j) ↔ StandsIn members.now atoms.now.atom_of but j) }
 {
     let mut row = empty_row(alloc, atoms.count())?;
     // the size fits a `u32`, and so does each number up to it

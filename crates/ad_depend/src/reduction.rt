@@ -33,7 +33,8 @@ pub(crate) fn all_reduced(alloc: Global, rows: &[Row]) -> Result<Vec<Row>, Memor
     requires transitive { IsTransitive rows.now }
     ensures count { IfOk result (λ found. length found.items ≡ length rows.now) }
     ensures square { IfOk result (λ found. AreSquare found.items) }
-    ensures reduced { IfOk result (λ found. (i : ℕ) → i < length rows.now → IsReduced rows.now i (slice_index_or found.items i [])) }
+    ensures reduced { IfOk result (λ found. (i : ℕ) → i < length rows.now →
+        IsReduced rows.now i (slice_index_or found.items i [])) }
 {
     let mut found = Vec::with_capacity(alloc, rows.len())?;
     for at in 0..rows.len() {

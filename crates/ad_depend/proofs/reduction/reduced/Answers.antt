@@ -3,7 +3,7 @@ use Rattle.std.proofs.Common.{◌≡◌, ◌<◌, ◌&&◌, not, [], length, get
 use Rattle.std.proofs.lemmas.List.{get_or_read}
 use Rattle.ad_bits.specs.Rows.{has}
 use Rattle.ad_bits.proofs.Rows.{within_size}
-use Rattle.ad_depend.proofs.ReductionLemmas.{reduced_more}
+use Rattle.ad_depend.proofs.ReductionLemmas.{reduced_more, reduced_all}
 use Rattle.ad_depend.proofs.reduction.reduced.Goals as goal
 
 pub members-preserved : goal.members-preserved
@@ -20,3 +20,6 @@ members-preserved c =
           c.members.invariant.left least
           (λ b. c.minus_with.ensures.members b ∙ ap (λ r. has c.members.row b && not (has r b)) read);
     }
+
+pub returns-clause-reduced : goal.returns-clause-reduced
+returns-clause-reduced c = reduced_all c.args.rows.now c.args.at c.requires.transitive c.members.from c.members.row c.members.invariant.left c.in_default.ensures.none
