@@ -2,3 +2,4 @@ pub mod RowLemmas
 pub mod ReductionLemmas
 pub mod NumberingLemmas
 pub mod CoverLemmas
+pub mod ExampleLemmas

@@ -1,3 +1,4 @@
 pub mod Covered
 pub mod Reduction
 pub mod Numbering
+pub mod Example

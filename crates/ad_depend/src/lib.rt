@@ -8,3 +8,5 @@ mod depends;
 mod found;
 mod reduction;
 mod search;
+#[cfg(test)]
+mod tests;
