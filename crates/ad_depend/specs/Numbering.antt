@@ -13,6 +13,7 @@ pub record AreAtomsOfOrder (tables : Tables) (kind : Kind) (order : List ℕ) (a
   pub nested : AreNested (is_in_row_of tables kind) order
   pub numbered : AreAtoms (is_in_row_of tables kind) order atoms
 
+-- the same, for some order
 abbrev pub AreAtomsOfRows : Tables → Kind → Numbered → Type 0
 AreAtomsOfRows tables kind atoms = (order : List ℕ) × AreAtomsOfOrder tables kind order atoms
 
