@@ -1,10 +1,16 @@
 -- Rows over numbers, one for each number: a relation between them.
 use Rattle.std.specs.Prelude.{◌≡◌, ℕ, ◌<◌, ◌↔◌, Bool, List, [], length, slice_index_or, IsTrue, IsFalse}
+use Rattle.std.specs.List.{Contains}
 use Rattle.ad_bits.specs.Rows.{has}
 
 -- whether b is in the row of a
 abbrev pub is_in_row : List (List Bool) → ℕ → ℕ → Bool
 is_in_row rows a b = has (slice_index_or rows a []) b
+
+-- the list has each number below the size, and no other
+pub record AreNumbers (size : ℕ) (numbers : List ℕ) : Type 0 where
+  pub each : (n : ℕ) → n < size → Contains numbers n
+  pub below : (n : ℕ) → Contains numbers n → n < size
 
 -- each row is over the numbers that have one
 abbrev pub AreSquare : List (List Bool) → Type 0

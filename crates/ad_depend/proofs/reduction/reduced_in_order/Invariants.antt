@@ -1,6 +1,6 @@
 use Rattle.std.proofs.Common.{◌≡◌, ◌≤◌, ◌-◌, length}
 use Rattle.ad_depend.proofs.ReductionLemmas.{IsReducedBelow}
-use Rattle.ad_depend.proofs.reduction.reduced.Given as goal
+use Rattle.ad_depend.proofs.reduction.reduced_in_order.Given as goal
 
 abbrev pub invariant-members : goal.invariant-members
 invariant-members l = record {

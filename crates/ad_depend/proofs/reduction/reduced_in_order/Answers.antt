@@ -4,7 +4,7 @@ use Rattle.std.proofs.lemmas.List.{get_or_read}
 use Rattle.ad_bits.specs.Rows.{has}
 use Rattle.ad_bits.proofs.Rows.{within_size}
 use Rattle.ad_depend.proofs.ReductionLemmas.{reduced_more, reduced_all}
-use Rattle.ad_depend.proofs.reduction.reduced.Goals as goal
+use Rattle.ad_depend.proofs.reduction.reduced_in_order.Goals as goal
 
 pub members-preserved : goal.members-preserved
 members-preserved c =
