@@ -1,0 +1,5 @@
+pub mod RowLemmas
+pub mod Gathers
+pub mod Places
+pub mod Counts
+pub mod Steps
