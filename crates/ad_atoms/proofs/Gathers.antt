@@ -40,12 +40,6 @@ module _ (test : ℕ → Bool) where
   ]
 
   module _ (before : List (Option ℕ)) (atom : ℕ) where
-    pub none_gathered : IsGathered test before atom 0 0 before
-    none_gathered = record { counted = refl; long = refl; entries = λ b. sym (entry_same before atom 0 0 b (λ _. refl) ∙ none b) }
-      where
-        none : (b : ℕ) → entry_of test before atom 0 b ≡ get_or before b None
-        none b = let e : ltb b 0 ≡ false = grind (arith, nat_tests) in elim (either (test b)) [ inl t ↦ rw (t, e) refl | inr o ↦ rw o refl ]
-
     -- what was not reached yet is as before
     pub not_reached : (from size b : ℕ) (after : List (Option ℕ)) → IsGathered test before atom from size after → from ≤ b → get_or after b None ≡ get_or before b None
     not_reached from size b after g l = g.entries b ∙ (let e : ltb b from ≡ false = grind (arith, nat_tests) in elim (either (test b)) [ inl t ↦ rw (t, e) refl | inr o ↦ rw o refl ])

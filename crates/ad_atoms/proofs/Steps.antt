@@ -2,7 +2,7 @@
 use Rattle.std.proofs.Common.{◌≡◌, ℕ, ◌+◌, ◌<◌, ◌≤◌, Bool, true, false, cond, not, List, [], ◌∷◌, ◌++◌, length, get_or, map, nat_eq, Option, Some, None, is_none, IsTrue, IsFalse, inl, inr, sym, ◌∙◌, refl, ap, arith}
 use Rattle.std.specs.List.{Contains, filter, list_any, position, IsDistinct}
 use Rattle.std.specs.Cmp.{both_ways}
-use Rattle.std.proofs.lemmas.List.{append-nil, map_push, length-map, length_push}
+use Rattle.std.proofs.lemmas.List.{append-nil, map_push, length_push}
 use Rattle.std.proofs.lemmas.List.Elements.{filter-append}
 use Rattle.std.proofs.lemmas.List.Quantifiers.{position-Some}
 use Rattle.ad_theory.specs.Numbers.{sum_where}
@@ -16,7 +16,15 @@ use Rattle.ad_atoms.specs.Numbering.{AreAtomsOf, is_mutual, joins, done_in_atoms
 use Rattle.ad_atoms.proofs.Places.{position-push_some, position-push_none}
 use Rattle.ad_atoms.proofs.Counts.{counted, sum_same}
 
--- the entry of an axiom with no atom, and of one with an atom
+-- one more tautology
+abbrev pub with_tautology : Numbered → Numbered
+with_tautology atoms = record { atom_of = atoms.atom_of; firsts = atoms.firsts; sizes = atoms.sizes; tautologies = atoms.tautologies + 1 }
+
+-- one more atom, with these entries, its first axiom and its size
+abbrev pub with_first : Numbered → List (Option ℕ) → ℕ → ℕ → Numbered
+with_first atoms entries a size = record { atom_of = entries; firsts = atoms.firsts ++ a ∷ []; sizes = atoms.sizes ++ size ∷ []; tautologies = atoms.tautologies }
+
+-- the entry of an axiom with an atom, and of one with none
 own_entry : (G : ℕ → ℕ → Bool) (a : ℕ) (o : Option ℕ) → IsTrue (G a a) → cond (G a a) o None ≡ o
 own_entry G a o t = rw t refl
 
@@ -50,9 +58,6 @@ module _ (G : ℕ → ℕ → Bool) (order : List ℕ) where
   pub tautologies-le : (done : List ℕ) (atoms : Numbered) → AreAtomsOf G order done atoms → atoms.tautologies ≤ length done
   tautologies-le done atoms h = omega (arith, h.tautologies_are, length-filter-le (λ a. not (G a a)) done)
 
-  pub length-sizes : (done : List ℕ) (atoms : Numbered) → AreAtomsOf G order done atoms → length atoms.sizes ≡ length atoms.firsts
-  length-sizes done atoms h = ap length h.sizes_are ∙ length-map (done_firsts G order done) (size_of G order) ∙ sym (ap length h.firsts_are)
-
   in_atoms-push_own : (done : List ℕ) (a : ℕ) → IsTrue (G a a) → done_in_atoms G (done ++ a ∷ []) ≡ done_in_atoms G done ++ a ∷ []
   in_atoms-push_own done a t = let here : G a a ≡ true = t in filter-append (λ a. G a a) done (a ∷ []) ∙ rw here refl
 
@@ -66,7 +71,7 @@ module _ (G : ℕ → ℕ → Bool) (order : List ℕ) where
   tautologies-push_none done a f = let here : G a a ≡ false = f in ap length (filter-append (λ a. not (G a a)) done (a ∷ []) ∙ rw here refl) ∙ length_push (filter (λ a. not (G a a)) done) a
 
   -- a tautology is counted
-  pub tautology_done : (done : List ℕ) (atoms : Numbered) (a : ℕ) → AreAtomsOf G order done atoms → IsFalse (G a a) → AreAtomsOf G order (done ++ a ∷ []) (record { atom_of = atoms.atom_of; firsts = atoms.firsts; sizes = atoms.sizes; tautologies = atoms.tautologies + 1 })
+  pub tautology_done : (done : List ℕ) (atoms : Numbered) (a : ℕ) → AreAtomsOf G order done atoms → IsFalse (G a a) → AreAtomsOf G order (done ++ a ∷ []) (with_tautology atoms)
   tautology_done done atoms a h f =
       let same : done_firsts G order (done ++ a ∷ []) ≡ done_firsts G order done = ap (firsts_among (same_module G order)) (in_atoms-push_none done a f) in
       record {
@@ -191,7 +196,7 @@ module _ (G : ℕ → ℕ → Bool) (order : List ℕ) where
         | inr f ↦ not_joined b (λ m. not_both (mutual_own a b o m) f) ∙ h.of_axioms b q ∙ no_entry G b (position (same_module G order b) (done_firsts G order done)) f ∙ sym (no_entry G b (position (same_module G order b) (done_firsts G order (done ++ a ∷ []))) f)
       ]
 
-      pub first_done : (entries : List (Option ℕ)) (size atom : ℕ) → atom ≡ length atoms.firsts → ((b : ℕ) → get_or entries b None ≡ cond (joins G atoms.atom_of a b) (Some atom) (get_or atoms.atom_of b None)) → size ≡ size_of G order a → AreAtomsOf G order (done ++ a ∷ []) (record { atom_of = entries; firsts = atoms.firsts ++ a ∷ []; sizes = atoms.sizes ++ size ∷ []; tautologies = atoms.tautologies })
+      pub first_done : (entries : List (Option ℕ)) (size atom : ℕ) → atom ≡ length atoms.firsts → ((b : ℕ) → get_or entries b None ≡ cond (joins G atoms.atom_of a b) (Some atom) (get_or atoms.atom_of b None)) → size ≡ size_of G order a → AreAtomsOf G order (done ++ a ∷ []) (with_first atoms entries a size)
       first_done entries size atom number given is =
           let are : (b : ℕ) → get_or entries b None ≡ cond (joins G atoms.atom_of a b) (Some (length atoms.firsts)) (get_or atoms.atom_of b None) = λ b. given b ∙ ap (λ n. cond (joins G atoms.atom_of a b) (Some n) (get_or atoms.atom_of b None)) number in
           record {

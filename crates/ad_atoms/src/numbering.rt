@@ -1,4 +1,4 @@
-ghost use Rattle.std.specs.Prelude.{◌≡◌, ◌<◌, ◌^◌, ℕ, None, Some, length, nat_eq, slice_index_or, if◌then◌else◌, IfOk, IsTrue};
+ghost use Rattle.std.specs.Prelude.{◌≡◌, ◌<◌, ◌^◌, ℕ, None, Some, length, nat_eq, slice_index_or, if◌then◌else◌, IfOk, IsSome, IsTrue};
 ghost use Rattle.std.specs.List.{IsDistinct};
 ghost use Rattle.ad_theory.specs.Numbers.{sum_where};
 ghost use Rattle.ad_theory.specs.Rows.{of_kind, row_of};
@@ -13,7 +13,7 @@ use std::alloc::Global;
 
 /// The row of a slot that has one.
 fn row_at(rows: &Rows, kind: Kind, slot: u32) -> &Row
-    requires { (size : ℕ) × HasRow rows.now kind size slot }
+    requires { IsSome (row_of rows.now kind slot) }
     ensures { row_of rows.now kind slot ≡ Some result.now }
 {
     rows.row(kind, slot).unwrap()

@@ -1,17 +1,18 @@
 -- The axioms that were gone through have their atoms.
-use Rattle.std.proofs.Common.{◌+◌, ◌<◌, [], ◌∷◌, ◌++◌, length, get_or, take, sym, ◌∙◌, ap, arith}
+use Rattle.std.proofs.Common.{◌+◌, ◌<◌, [], ◌∷◌, ◌++◌, is_some, length, get_or, take, sym, ◌∙◌, ap, arith}
 use Rattle.std.proofs.lemmas.List.{take_more, take_all, length-take}
 use Rattle.std.proofs.lemmas.List.Elements.{Contains-get_or}
+use Rattle.ad_theory.specs.Rows.{Numbered}
 use Rattle.ad_decomposition.specs.Tables.{is_in_row_of}
 use Rattle.ad_atoms.proofs.RowLemmas.{row_size, is_in_has, entry_free}
-use Rattle.ad_atoms.proofs.Steps.{atoms_as, all_done, length-firsts, tautologies-le, tautology_done, member_done, size_is, first_done}
+use Rattle.ad_atoms.proofs.Steps.{with_tautology, with_first, atoms_as, all_done, length-firsts, tautologies-le, tautology_done, member_done, size_is, first_done}
 use Rattle.ad_atoms.proofs.numbering.atoms.Goals as goal
 use Rattle.ad_atoms.proofs.numbering.atoms.Goals.{then-not-has, else-not-has+then-is_none+in_ok-push+in_ok-push-2, else-not-has+else-is_none}
 
 pub row_at-requires : goal.row_at-requires
 row_at-requires c =
     let a = get_or c.args.order.now c.loop-slot.slot-index 0 in
-    (_, c.requires.rows.rows a (Contains-get_or c.args.order.now c.loop-slot.slot-index 0 c.loop-slot-test.true))
+    ap is_some (c.requires.rows.rows a (Contains-get_or c.args.order.now c.loop-slot.slot-index 0 c.loop-slot-test.true)).1
 
 pub has-requires : goal.has-requires
 has-requires c =
@@ -54,6 +55,8 @@ loop-slot-preserved c =
     let more = take_more order i 0 c.loop-slot-test.true in
     let old = c.loop-slot.invariant.numbered in
     let own = is_in_has c.args.rows.now c.args.kind a c.row_at.result.now c.row_at.ensures a ∙ sym c.has.ensures in
+    let before : Numbered = record { atom_of = c.loop-slot.atom_of.items; firsts = c.loop-slot.firsts.items; sizes = c.loop-slot.sizes.items; tautologies = c.loop-slot.tautologies } in
+    let after : Numbered = record { atom_of = c.if-not-has.atom_of.items; firsts = c.if-not-has.firsts.items; sizes = c.if-not-has.sizes.items; tautologies = c.if-not-has.tautologies } in
     let small : a < length c.loop-slot.atom_of.items = omega (arith, c.requires.rows.below a listed, c.loop-slot.invariant.long) in
     record {
       long = elim c.if-not-has.branch [
@@ -62,18 +65,18 @@ loop-slot-preserved c =
         | else-not-has+else-is_none w ↦ ap (λ v. length v.items) w.atom_of-is ∙ c.loop-slot.invariant.long
       ];
       numbered = elim c.if-not-has.branch [
-        | then-not-has w ↦ atoms_as G order (done ++ a ∷ []) (take (i + 1) order) _ _ more (ap (λ v. v.items) w.firsts-is) (ap (λ v. v.items) w.sizes-is) w.tautologies-is (ap (λ v. v.items) w.atom_of-is)
-            (tautology_done G order done _ a old (own ∙ w.if-not-has.true))
+        | then-not-has w ↦ atoms_as G order (done ++ a ∷ []) (take (i + 1) order) (with_tautology before) after more (ap (λ v. v.items) w.firsts-is) (ap (λ v. v.items) w.sizes-is) w.tautologies-is (ap (λ v. v.items) w.atom_of-is)
+            (tautology_done G order done before a old (own ∙ w.if-not-has.true))
         | else-not-has+then-is_none+in_ok-push+in_ok-push-2 w ↦ (
             let t = own ∙ w.if-not-has.false in
             let free = entry_free c.loop-slot.atom_of.items a w.index.result.now w.is_none.result w.index.ensures small w.is_none.ensures ∙ w.if-is_none.true in
-            let size = w.gather-size.ensures.size ∙ size_is G order c.requires.nested done _ a old listed t free (length c.loop-slot.atom_of.items) c.requires.distinct (λ b k. omega (arith, c.requires.rows.below b k, c.loop-slot.invariant.long)) in
-            atoms_as G order (done ++ a ∷ []) (take (i + 1) order) _ _ more
+            let size = w.gather-size.ensures.size ∙ size_is G order c.requires.nested done before a old listed t free (length c.loop-slot.atom_of.items) c.requires.distinct (λ b k. omega (arith, c.requires.rows.below b k, c.loop-slot.invariant.long)) in
+            atoms_as G order (done ++ a ∷ []) (take (i + 1) order) (with_first before w.gather-size.new.atom_of.items a w.gather-size.result) after more
             (ap (λ v. v.items) w.firsts-is ∙ w.in_ok-push.ensures.items) (ap (λ v. v.items) w.sizes-is ∙ w.in_ok-push-2.ensures.items) w.tautologies-is (ap (λ v. v.items) w.atom_of-is)
-            (first_done G order c.requires.nested done _ a old listed t free w.gather-size.new.atom_of.items w.gather-size.result w.len-atom.result (omega (arith, w.len-atom.ensures)) w.gather-size.ensures.entries size)
+            (first_done G order c.requires.nested done before a old listed t free w.gather-size.new.atom_of.items w.gather-size.result w.len-atom.result (omega (arith, w.len-atom.ensures)) w.gather-size.ensures.entries size)
             )
-        | else-not-has+else-is_none w ↦ atoms_as G order (done ++ a ∷ []) (take (i + 1) order) _ _ more (ap (λ v. v.items) w.firsts-is) (ap (λ v. v.items) w.sizes-is) w.tautologies-is (ap (λ v. v.items) w.atom_of-is)
-            (member_done G order done _ a old listed (own ∙ w.if-not-has.false) (entry_free c.loop-slot.atom_of.items a w.index.result.now w.is_none.result w.index.ensures small w.is_none.ensures ∙ w.if-is_none.false))
+        | else-not-has+else-is_none w ↦ atoms_as G order (done ++ a ∷ []) (take (i + 1) order) before after more (ap (λ v. v.items) w.firsts-is) (ap (λ v. v.items) w.sizes-is) w.tautologies-is (ap (λ v. v.items) w.atom_of-is)
+            (member_done G order done before a old listed (own ∙ w.if-not-has.false) (entry_free c.loop-slot.atom_of.items a w.index.result.now w.is_none.result w.index.ensures small w.is_none.ensures ∙ w.if-is_none.false))
       ];
     }
 
