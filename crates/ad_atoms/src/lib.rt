@@ -4,3 +4,5 @@
 pub use numbering::atoms;
 
 mod numbering;
+#[cfg(test)]
+mod tests;
