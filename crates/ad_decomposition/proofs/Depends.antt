@@ -6,7 +6,7 @@ use Rattle.ad_theory.proofs.Members.{either, not_both, or_left, or_right, or_cas
 use Rattle.ad_decomposition.specs.Atoms.{depends, same_module, depends_strictly}
 use Rattle.ad_decomposition.specs.Tables.{AreNested}
 
-all_of_has : {A : Type 0} (p : A → Bool) (xs : List A) → IsTrue (list_all p xs) → (a : A) → Has xs a → IsTrue (p a)
+pub all_of_has : {A : Type 0} (p : A → Bool) (xs : List A) → IsTrue (list_all p xs) → (a : A) → Has xs a → IsTrue (p a)
 all_of_has p [] t a h = absurd h
 all_of_has p (x ∷ xs) t a (inl e) = subst (λ y. IsTrue (p y)) (sym e) (and_left (p x) (list_all p xs) t)
 all_of_has p (x ∷ xs) t a (inr h) = all_of_has p xs (and_right (p x) (list_all p xs) t) a h

@@ -1,0 +1,35 @@
+-- Numbering the atoms while the ontology's axioms are gone through in order. G says which axioms are in the genuine
+-- module of an axiom (G a b: b is in that of a).
+use Rattle.std.specs.Prelude.{◌≡◌, ℕ, ◌&&◌, not, Bool, List, Option, Some, None, is_none, length, map, if◌then◌else◌, slice_index_or}
+use Rattle.std.specs.List.{Contains, filter, position}
+use Rattle.ad_base.specs.declared.limits.Kind.{Kind}
+use Rattle.ad_theory.specs.Rows.{Tables, Numbered, row_of}
+use Rattle.ad_decomposition.specs.Atoms.{firsts_among, same_module, size_of}
+
+-- the slot has a row over so many slots
+abbrev pub HasRow : Tables → Kind → ℕ → ℕ → Type 0
+HasRow tables kind size slot = (row : List Bool) × (row_of tables kind slot ≡ Some row) × (length row ≡ size)
+
+-- each is in the module of the other
+abbrev pub is_mutual : (ℕ → ℕ → Bool) → ℕ → ℕ → Bool
+is_mutual G a b = G a b && G b a
+
+-- b is to be put into the atom of a: it has none yet, and each is in the module of the other
+abbrev pub joins : (ℕ → ℕ → Bool) → List (Option ℕ) → ℕ → ℕ → Bool
+joins G entries a b = is_mutual G a b && is_none (slice_index_or entries b None)
+
+-- the axioms of atoms among those gone through
+abbrev pub done_in_atoms : (ℕ → ℕ → Bool) → List ℕ → List ℕ
+done_in_atoms G done = filter (λ a. G a a) done
+
+-- the first axioms of the atoms among those gone through
+abbrev pub done_firsts : (ℕ → ℕ → Bool) → List ℕ → List ℕ → List ℕ
+done_firsts G order done = firsts_among (same_module G order) (done_in_atoms G done)
+
+-- the atoms of these axioms are numbered: each axiom of them has its number, also where it stands later in the order
+pub record AreAtomsOf (G : ℕ → ℕ → Bool) (order done : List ℕ) (atoms : Numbered) : Type 0 where
+  pub firsts_are : atoms.firsts ≡ done_firsts G order done
+  pub sizes_are : atoms.sizes ≡ map (size_of G order) (done_firsts G order done)
+  pub tautologies_are : atoms.tautologies ≡ length (filter (λ a. not (G a a)) done)
+  pub of_axioms : (a : ℕ) → Contains order a → slice_index_or atoms.atom_of a None ≡ (if G a a then position (same_module G order a) (done_firsts G order done) else None)
+  pub of_others : (a : ℕ) → ¬ Contains order a → slice_index_or atoms.atom_of a None ≡ None
