@@ -1,0 +1,3 @@
+pub mod Signatures
+pub mod Keys
+pub mod Groups

@@ -1,0 +1,5 @@
+//! Finds the genuine modules of all axioms from scratch: each signature is looked up once, and threads share the work.
+#![tactic(auto)]
+
+mod grouping;
+mod key;
