@@ -1,4 +1,4 @@
-ghost use Rattle.std.specs.Prelude.{◌≡◌, ◌≤◌, ◌+◌, ◌<◌, ◌^◌, ℕ, length, IsTrue, IfOk, OnOk};
+ghost use Rattle.std.specs.Prelude.{◌≡◌, ◌≤◌, ◌+◌, ◌<◌, ◌^◌, ℕ, length, map, IsTrue, IfOk, OnOk};
 ghost use Rattle.std.specs.List.{All, AllZip};
 ghost use Rattle.std.specs.Arc.{arc_value};
 ghost use Rattle.ad_base.specs.Limits.{AreWithinStandard};
@@ -89,8 +89,8 @@ impl<E: Extractor> Bench<E> {
         requires limits { AreSizesOf (E.made_for self.old.extractor) (U.slot_count universe.now) (U.symbol_count universe.now) }
         requires live { All (λ slot. IsTrue (U.is_live universe.now slot)) slots.now }
         requires fits { tally.old.runs + length slots.now < 2 ^ 64 }
-        ensures found { IfOk result (λ rows. AllZip (λ slot row. IsGenuineRow (U.symbols_of universe.now) (U.is_local universe.now)
-            (U.is_live universe.now) (U.slot_count universe.now) kind slot (arc_value row)) slots.now rows.items) }
+        ensures found { IfOk result (λ rows. AllZip (IsGenuineRow (U.symbols_of universe.now) (U.is_local universe.now)
+            (U.is_live universe.now) (U.slot_count universe.now) kind) slots.now (map (λ row. arc_value row) rows.items)) }
         ensures runs { OnOk result (tally.new.runs ≡ tally.old.runs + length slots.now) }
         ensures limits { E.made_for self.new.extractor ≡ E.made_for self.old.extractor }
     {

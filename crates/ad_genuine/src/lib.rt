@@ -2,5 +2,6 @@
 #![tactic(auto)]
 
 mod bench;
+mod found;
 mod grouping;
 mod key;
