@@ -1,3 +1,4 @@
 pub mod KeyLemmas
 pub mod FirstLemmas
 pub mod GroupLemmas
+pub mod PartLemmas

@@ -5,3 +5,4 @@ mod bench;
 mod found;
 mod grouping;
 mod key;
+mod parts;
