@@ -32,3 +32,8 @@ zip_oks view R S f [] [] h = tt
 zip_oks view R S f [] (y ∷ ys) h = absurd h
 zip_oks view R S f (z ∷ zs) [] h = absurd h
 zip_oks view R S f (z ∷ zs) (y ∷ ys) h = (f z y h.0, zip_oks view R S f zs ys h.1)
+
+-- what follows from two facts of the value of an `Ok`
+pub if_ok_both : {X E : Type 0} (P Q R : X → Type 0) (r : Result X E) → IfOk r P → IfOk r Q → ((x : X) → P x → Q x → R x) → IfOk r R
+if_ok_both P Q R (Ok x) p q f = f x p q
+if_ok_both P Q R (Err e) p q f = tt

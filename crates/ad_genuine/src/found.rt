@@ -1,5 +1,6 @@
-ghost use Rattle.std.specs.Prelude.{◌≡◌, ◌≤◌, ◌<◌, ◌+◌, ◌^◌, ◌++◌, [], length, sum_by, IsTrue, IfOk, OnOk};
+ghost use Rattle.std.specs.Prelude.{◌≡◌, ◌≤◌, ◌<◌, ◌+◌, ◌^◌, ◌++◌, [], length, map, slice_index_or, sum_by, IsTrue, IfOk, OnOk};
 ghost use Rattle.std.specs.List.{All, flat_map};
+ghost use Rattle.std.specs.Arc.{arc_value};
 ghost use Rattle.ad_base.specs.declared.limits.Kind.{Kind};
 ghost use Rattle.ad_base.specs.Limits.{AreWithinStandard};
 ghost use Rattle.ad_theory.specs.Numbers.{AreSizesOf};
@@ -49,6 +50,14 @@ pub(crate) fn find<U: Universe, E: Extractor>(
     })
 }
 
+// The row at a place, shared.
+fn share(rows: &[Arc<Row>], at: u32) -> Result<Arc<Row>, Memory>
+    requires { at < length (map (λ row. arc_value row) rows.now) }
+    ensures { IfOk result (λ row. arc_value row ≡ slice_index_or (map (λ row. arc_value row) rows.now) at []) }
+{
+    Ok(Arc::try_clone(&rows[at as usize])?)
+}
+
 impl Found {
     // What is found for no slots.
     fn nothing(alloc: Global) -> Found
@@ -73,6 +82,18 @@ impl Found {
         self.star.append(&mut more.star)?;
         self.tally.add(&more.tally);
         Ok(())
+    }
+
+    // The row of the kind at a place, shared.
+    pub(crate) fn share(&self, kind: Kind, at: u32) -> Result<Arc<Row>, Memory>
+        requires { at < length (rows_of_kind self.now kind) }
+        ensures { IfOk result (λ row. arc_value row ≡ slice_index_or (rows_of_kind self.now kind) at []) }
+    {
+        match kind {
+            Kind::Bottom => share(&self.bottom, at),
+            Kind::Top => share(&self.top, at),
+            Kind::Star => share(&self.star, at),
+        }
     }
 }
 

@@ -1,4 +1,4 @@
-ghost use Rattle.std.specs.Prelude.{◌≡◌, ◌+◌, ◌∷◌, ◌++◌, [], ◌<◌, ◌⊎◌, ℕ, List, Option, Some, None, IfOk, cond, length};
+ghost use Rattle.std.specs.Prelude.{◌≡◌, ◌+◌, ◌∷◌, ◌++◌, [], ◌<◌, ◌⊎◌, ℕ, List, Option, Some, None, IsTrue, IfOk, cond, length};
 ghost use Rattle.std.specs.Str.{bytes_eq};
 ghost use Rattle.ad_genuine.specs.Keys.{IsKeyOf, value_at};
 ghost use Rattle.ad_genuine.specs.Groups.{AreGroups, AreKnown};
@@ -67,8 +67,9 @@ fn place<U: Universe>(
 
 // Groups the live slots by signature.
 pub(crate) fn grouped<U: Universe>(alloc: Global, universe: &U) -> Result<Groups, Memory>
-    ensures { IfOk result (λ groups. AreGroups (U.symbols_of universe.now) (U.is_live universe.now) (U.slot_count universe.now)
+    ensures groups { IfOk result (λ groups. AreGroups (U.symbols_of universe.now) (U.is_live universe.now) (U.slot_count universe.now)
         groups.groups.items groups.firsts.items) }
+    ensures all { IfOk result (λ groups. (slot : ℕ) → IsTrue (U.is_live universe.now slot) → slot < length groups.groups.items) }
 {
     let mut known = BTreeMap::new(alloc);
     let mut firsts = Vec::new(alloc);

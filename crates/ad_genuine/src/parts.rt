@@ -4,7 +4,7 @@ ghost use Rattle.ad_base.specs.Limits.{AreWithinStandard};
 ghost use Rattle.ad_theory.specs.Numbers.{AreSizesOf};
 ghost use Rattle.ad_genuine.specs.Found.{AreFound};
 
-use crate::found::{Found, find};
+use crate::found::{Found, find, joined};
 use ad_base::{Limits, Memory};
 use ad_theory::{Extractor, Universe};
 use rayon::prelude::*;
@@ -42,4 +42,22 @@ pub(crate) fn find_parts<U: Universe + Sync, E: Extractor + Send>(
             { find::<U, E>(alloc, universe, limits, chunk) },
         )
         .collect::<Result<Vec<Found>, Memory>>(rt, alloc)?
+}
+
+// Finds the genuine modules of these slots, in threads.
+pub(crate) fn find_shared<U: Universe + Sync, E: Extractor + Send>(
+    rt: &(impl Threads + Sync),
+    alloc: Global,
+    universe: &U,
+    limits: &Limits,
+    slots: &[u32],
+) -> Result<Found, Memory>
+    requires limits { AreWithinStandard limits.now }
+    requires sizes { AreSizesOf limits.now (U.slot_count universe.now) (U.symbol_count universe.now) }
+    requires live { All (λ slot. IsTrue (U.is_live universe.now slot)) slots.now }
+    requires few { length slots.now ≤ 65536 }
+    ensures { IfOk result (AreFound (U.symbols_of universe.now) (U.is_local universe.now) (U.is_live universe.now) (U.slot_count universe.now) slots.now) }
+{
+    let parts = find_parts::<U, E>(rt, alloc, universe, limits, slots)?;
+    joined(alloc, parts)
 }
