@@ -1,10 +1,10 @@
 -- The elements that are the same as none before them, with one more element at the end.
-use Rattle.std.proofs.Common.{◌≡◌, ℕ, ◌+◌, ◌||◌, not, Bool, true, false, cond, List, [], ◌∷◌, ◌++◌, IsTrue, IsFalse, inl, inr, refl, sym, subst, ap, ◌∙◌, append-nil, arith}
+use Rattle.std.proofs.Common.{◌≡◌, ℕ, ◌+◌, ◌||◌, not, Bool, cond, List, [], ◌∷◌, ◌++◌, IsTrue, IsFalse, inl, inr, refl, sym, ap, ◌∙◌, append-nil, arith}
 use Rattle.std.specs.List.{filter, list_any, range_with_len}
 use Rattle.std.proofs.lemmas.List.{map-id}
 use Rattle.std.proofs.lemmas.List.Elements.{filter-append}
 use Rattle.std.proofs.lemmas.List.FromFn.{map-range_with_len_more}
-use Rattle.ad_theory.proofs.Members.{Has, either, not_both, not_true, false_not, or_left, or_right, has_of_any, any_of_has, has_filter, filter_has}
+use Rattle.ad_theory.proofs.Members.{either, not_both, false_not, or_left, or_right, has_of_any, any_of_has, has_filter, filter_has}
 use Rattle.ad_decomposition.specs.Atoms.{firsts_among}
 
 module _ {A : Type 0} (same : A → A → Bool) (trans : (a b c : A) → IsTrue (same a b) → IsTrue (same b c) → IsTrue (same a c)) where
@@ -32,23 +32,23 @@ module _ {A : Type 0} (same : A → A → Bool) (trans : (a b c : A) → IsTrue 
   rest_new : (a x : A) (F : List A) → others a (new_one F x) ≡ new_one (a ∷ others a F) x
   rest_new a x F = elim (either (same a x)) [
     | inl t ↦ (
-      let gone : others a (new_one F x) ≡ [] = elim (either (list_any (λ b. same b x) F)) [
-        | inl h ↦ ap (others a) (new_of_any F x h)
-        | inr h ↦ ap (others a) (new_of_none F x h) ∙ none_left a x t
-      ] in
-      gone ∙ sym (new_of_any (a ∷ others a F) x (or_left (same a x) (list_any (λ b. same b x) (others a F)) t)))
+        let gone : others a (new_one F x) ≡ [] = elim (either (list_any (λ b. same b x) F)) [
+          | inl h ↦ ap (others a) (new_of_any F x h)
+          | inr h ↦ ap (others a) (new_of_none F x h) ∙ none_left a x t
+        ] in
+        gone ∙ sym (new_of_any (a ∷ others a F) x (or_left (same a x) (list_any (λ b. same b x) (others a F)) t)))
     | inr f ↦ elim (either (list_any (λ b. same b x) F)) [
       | inl h ↦ (
-        let r = has_of_any (λ b. same b x) F h in
-        let apart : IsTrue (not (same a r.0)) = elim (either (same a r.0)) [ inl t ↦ absurd (not_both (trans a r.0 x t r.2) f) | inr n ↦ false_not (same a r.0) n ] in
-        let stays : IsTrue (list_any (λ b. same b x) (others a F)) = any_of_has (λ b. same b x) (others a F) r.0 (has_filter (λ b. not (same a b)) F r.0 r.1 apart) r.2 in
-        ap (others a) (new_of_any F x h) ∙ sym (new_of_any (a ∷ others a F) x (or_right (same a x) (list_any (λ b. same b x) (others a F)) stays)))
+          let r = has_of_any (λ b. same b x) F h in
+          let apart : IsTrue (not (same a r.0)) = elim (either (same a r.0)) [ inl t ↦ absurd (not_both (trans a r.0 x t r.2) f) | inr n ↦ false_not (same a r.0) n ] in
+          let stays : IsTrue (list_any (λ b. same b x) (others a F)) = any_of_has (λ b. same b x) (others a F) r.0 (has_filter (λ b. not (same a b)) F r.0 r.1 apart) r.2 in
+          ap (others a) (new_of_any F x h) ∙ sym (new_of_any (a ∷ others a F) x (or_right (same a x) (list_any (λ b. same b x) (others a F)) stays)))
       | inr h ↦ (
-        let none : IsFalse (same a x || list_any (λ b. same b x) (others a F)) = elim (either (list_any (λ b. same b x) (others a F))) [
-          | inl t ↦ (let r = has_of_any (λ b. same b x) (others a F) t in absurd (not_both (any_of_has (λ b. same b x) F r.0 (filter_has (λ b. not (same a b)) F r.0 r.1).0 r.2) h))
-          | inr n ↦ rw (f, n) refl
-        ] in
-        ap (others a) (new_of_none F x h) ∙ one_left a x f ∙ sym (new_of_none (a ∷ others a F) x none))
+          let none : IsFalse (same a x || list_any (λ b. same b x) (others a F)) = elim (either (list_any (λ b. same b x) (others a F))) [
+            | inl t ↦ (let r = has_of_any (λ b. same b x) (others a F) t in absurd (not_both (any_of_has (λ b. same b x) F r.0 (filter_has (λ b. not (same a b)) F r.0 r.1).0 r.2) h))
+            | inr n ↦ rw (f, n) refl
+          ] in
+          ap (others a) (new_of_none F x h) ∙ one_left a x f ∙ sym (new_of_none (a ∷ others a F) x none))
     ]
   ]
 

@@ -1,5 +1,5 @@
 -- Slots with the rows of their groups have their genuine modules.
-use Rattle.std.proofs.Common.{◌≡◌, ℕ, ◌<◌, Bool, List, [], Option, Some, None, length, get_or, IsTrue, IsFalse, inl, inr, sym, subst, ap, ◌∙◌, arith}
+use Rattle.std.proofs.Common.{◌≡◌, ℕ, ◌<◌, Bool, List, [], Option, Some, None, length, get_or, IsTrue, inl, inr, sym, subst, ap, ◌∙◌, arith}
 use Rattle.std.specs.Option.{option_map}
 use Rattle.ad_base.specs.declared.limits.Kind.{Kind}
 use Rattle.ad_base.specs.declared.limits.Side.{Side}
@@ -29,10 +29,10 @@ module _ (symbols : ℕ → List ℕ) (local : Side → (ℕ → Bool) → ℕ �
     pub group_below : (kind : Kind) (i g : ℕ) → get_or groups i None ≡ Some g → g < length (rows_of_kind found kind)
     group_below kind i g e = elim (either (live i)) [
       | inl t ↦ (
-        let r = are.of_live i (below i t) t in
-        let both : Some r.0 ≡ Some g = sym r.1 ∙ e in
-        let same : r.0 ≡ g = cc in
-        omega (arith, r.2, same, zip_long (IsGenuineRow symbols local live slots kind) firsts (rows_of_kind found kind) (rows.rows kind)))
+          let r = are.of_live i (below i t) t in
+          let both : Some r.0 ≡ Some g = sym r.1 ∙ e in
+          let same : r.0 ≡ g = cc in
+          omega (arith, r.2, same, zip_long (IsGenuineRow symbols local live slots kind) firsts (rows_of_kind found kind) (rows.rows kind)))
       | inr f ↦ (let clash : None ≡ Some g = sym (are.of_others i f) ∙ e in cc)
     ]
 

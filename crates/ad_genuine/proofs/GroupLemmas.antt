@@ -1,12 +1,12 @@
 -- One slot more is grouped.
-use Rattle.std.proofs.Common.{◌≡◌, ℕ, ◌+◌, ◌<◌, ◌≤◌, Bool, cond, List, [], ◌∷◌, ◌++◌, Option, Some, None, length, get_or, IsTrue, IsFalse, inl, inr, refl, sym, subst, ap, ◌∙◌, length-append, arith}
+use Rattle.std.proofs.Common.{◌≡◌, ℕ, ◌+◌, ◌<◌, Bool, cond, List, [], ◌∷◌, ◌++◌, Option, Some, None, length, get_or, IsTrue, IsFalse, inl, inr, refl, sym, subst, ap, ◌∙◌, length-append, arith}
 use Rattle.std.specs.List.{filter, list_any, range_with_len}
 use Rattle.std.specs.Str.{bytes_eq}
 use Rattle.std.specs.Cmp.Lexicographic.{bytes_decides}
 use Rattle.std.proofs.lemmas.Bool.{cases_lt, cases_eq, cond-true, cond-false}
 use Rattle.std.proofs.lemmas.List.{get_or_append_left, get_or_default, get_or_past}
 use Rattle.std.proofs.Math.Seq.{get_or-append_seam}
-use Rattle.ad_theory.proofs.Members.{Has, either, not_both, has_of_any, any_of_has, contains_of_has, has_get_or}
+use Rattle.ad_theory.proofs.Members.{either, not_both, has_of_any, any_of_has, contains_of_has, has_get_or}
 use Rattle.ad_decomposition.specs.Atoms.{firsts_among}
 use Rattle.ad_genuine.specs.Signatures.{same_members, first_slots}
 use Rattle.ad_genuine.specs.Keys.{IsKeyOf}
@@ -69,7 +69,7 @@ module _ (symbols : ℕ → List ℕ) (live : ℕ → Bool) (n : ℕ) (groups : 
     long = pushed_long groups n (Some g) are.long;
     firsts_are =
         let some : IsTrue (list_any (λ b. same b n) (first_slots symbols live n)) = subst (λ l. IsTrue (list_any (λ b. same b n) l)) are.firsts_are
-          (any_of_has (λ b. same b n) firsts (get_or firsts g 0) (has_get_or firsts g 0 below) like) in
+        (any_of_has (λ b. same b n) firsts (get_or firsts g 0) (has_get_or firsts g 0 below) like) in
         are.firsts_are ∙ sym (ap firsts_of (filter_range_yes live n t) ∙ firsts_among-same same trans (live_below n) n some);
     few = omega (arith, are.few);
     live_firsts = are.live_firsts;
@@ -98,17 +98,17 @@ module _ (symbols : ℕ → List ℕ) (live : ℕ → Bool) (n : ℕ) (groups : 
         ];
         of_live = λ i l t'. elim (cases_lt i n) [
           | inl b ↦ (let r = are.of_live i b t' in (
-              r.0,
-              pushed_before groups n i (Some (length firsts)) are.long b ∙ r.1,
-              omega (arith, r.2, more),
-              subst (λ k. IsTrue (same k i)) (sym (kept r.0 r.2)) r.3,
-            ))
+            r.0,
+            pushed_before groups n i (Some (length firsts)) are.long b ∙ r.1,
+            omega (arith, r.2, more),
+            subst (λ k. IsTrue (same k i)) (sym (kept r.0 r.2)) r.3,
+          ))
           | inr m ↦ (let e : i ≡ n = omega arith in (
-              length firsts,
-              ap (λ k. get_or (groups ++ Some (length firsts) ∷ []) k None) e ∙ pushed_here groups n (Some (length firsts)) are.long,
-              omega (arith, more),
-              subst (λ k. IsTrue (same k i)) (sym last) (subst (λ k. IsTrue (same n k)) (sym e) (same_members_of (symbols n) (symbols n) (λ s h. h) (λ s h. h))),
-            ))
+            length firsts,
+            ap (λ k. get_or (groups ++ Some (length firsts) ∷ []) k None) e ∙ pushed_here groups n (Some (length firsts)) are.long,
+            omega (arith, more),
+            subst (λ k. IsTrue (same k i)) (sym last) (subst (λ k. IsTrue (same n k)) (sym e) (same_members_of (symbols n) (symbols n) (λ s h. h) (λ s h. h))),
+          ))
         ];
         of_others = others_pushed (Some (length firsts)) (λ f. absurd (not_both t f));
       }
@@ -141,13 +141,13 @@ module _ (symbols : ℕ → List ℕ) (old new : List ℕ → Option ℕ) (first
   unknown_none had = elim (either (list_any (λ b. same_members (symbols b) (symbols n)) firsts)) [
     | inr f ↦ f
     | inl t ↦ (
-      let r = has_of_any (λ b. same_members (symbols b) (symbols n)) firsts t in
-      let at = contains_of_has firsts r.0 r.1 in
-      let here : get_or firsts at.0 0 ≡ r.0 = get_or_default firsts at.0 0 r.0 at.1 ∙ at.2 in
-      let k = known.all at.0 at.1 in
-      let e : k.0 ≡ key = same_key (symbols (get_or firsts at.0 0)) (symbols n) k.0 key k.1 is_key (subst (λ b. IsTrue (same_members (symbols b) (symbols n))) (sym here) r.2) in
-      let clash : Some at.0 ≡ None = sym k.2 ∙ ap old e ∙ had in
-      cc)
+        let r = has_of_any (λ b. same_members (symbols b) (symbols n)) firsts t in
+        let at = contains_of_has firsts r.0 r.1 in
+        let here : get_or firsts at.0 0 ≡ r.0 = get_or_default firsts at.0 0 r.0 at.1 ∙ at.2 in
+        let k = known.all at.0 at.1 in
+        let e : k.0 ≡ key = same_key (symbols (get_or firsts at.0 0)) (symbols n) k.0 key k.1 is_key (subst (λ b. IsTrue (same_members (symbols b) (symbols n))) (sym here) r.2) in
+        let clash : Some at.0 ≡ None = sym k.2 ∙ ap old e ∙ had in
+        cc)
   ]
 
   -- the key is new, and that of the new group
@@ -167,14 +167,14 @@ module _ (symbols : ℕ → List ℕ) (old new : List ℕ → Option ℕ) (first
         ];
         only = λ q h e. elim (either (bytes_eq key q)) [
           | inl y ↦ (
-            let eq = (bytes_decides key q).0 y in
-            let both : Some g ≡ Some h = sym (at_key q eq) ∙ e in
-            let same : g ≡ h = cc in
-            let at : get_or (firsts ++ n ∷ []) h 0 ≡ n = subst (λ k. get_or (firsts ++ n ∷ []) k 0 ≡ n) same last in
-            (omega (arith, more, is, same), subst (λ k. IsKeyOf (symbols k) q) (sym at) (subst (λ p. IsKeyOf (symbols n) p) eq is_key)))
+              let eq = (bytes_decides key q).0 y in
+              let both : Some g ≡ Some h = sym (at_key q eq) ∙ e in
+              let same : g ≡ h = cc in
+              let at : get_or (firsts ++ n ∷ []) h 0 ≡ n = subst (λ k. get_or (firsts ++ n ∷ []) k 0 ≡ n) same last in
+              (omega (arith, more, is, same), subst (λ k. IsKeyOf (symbols k) q) (sym at) (subst (λ p. IsKeyOf (symbols n) p) eq is_key)))
           | inr f ↦ (
-            let before : old q ≡ Some h = sym (updates q ∙ cond-false (bytes_eq key q) (Some g) (old q) f) ∙ e in
-            let r = known.only q h before in
-            (omega (arith, more, r.0), subst (λ k. IsKeyOf (symbols k) q) (sym (kept h r.0)) r.1))
+              let before : old q ≡ Some h = sym (updates q ∙ cond-false (bytes_eq key q) (Some g) (old q) f) ∙ e in
+              let r = known.only q h before in
+              (omega (arith, more, r.0), subst (λ k. IsKeyOf (symbols k) q) (sym (kept h r.0)) r.1))
         ];
       }

@@ -1,16 +1,16 @@
 -- Keys: lists have the same members exactly where they have the same key; and what a map has after one key more.
-use Rattle.std.proofs.Common.{◌≡◌, ◌==◌, ℕ, ◌<◌, ◌||◌, ◌&&◌, Bool, true, false, cond, List, [], ◌∷◌, ◌↔◌, Option, IsTrue, inl, inr, refl, sym, subst, ap, ◌∙◌, ⊎_elim, eqb, eqb-true, eq-eqb, arith}
-use Rattle.std.specs.List.{AllByRecursion, Contains, list_all, list_any}
+use Rattle.std.proofs.Common.{◌≡◌, ◌==◌, ℕ, ◌<◌, Bool, true, false, cond, List, [], ◌∷◌, Option, IsTrue, inl, inr, refl, sym, subst, ◌∙◌, eqb-true, eq-eqb, arith}
+use Rattle.std.specs.List.{AllByRecursion, list_all}
 use Rattle.std.specs.List.Sorted.{IsStrictlySortedBy}
-use Rattle.std.specs.Ordering.{nat_cmp, is_eq, eq_by_cmp}
+use Rattle.std.specs.Ordering.{nat_cmp, is_eq}
 use Rattle.std.specs.declared.cmp.Ordering.TheVariants.{Less}
 use Rattle.std.specs.Cmp.{ranked}
 use Rattle.std.specs.Cmp.Lexicographic.{slice_cmp, bytes_decides}
 use Rattle.std.specs.Str.{bytes_eq}
-use Rattle.std.specs.BTreeMap.{BTreeMap, UpdatesBy, is_at}
+use Rattle.std.specs.BTreeMap.{BTreeMap, UpdatesBy}
 use Rattle.std.specs.Map.{lookup, IsKeyTest, AreApart, KeepsOthers}
 use Rattle.std.specs.declared.vec.Vec.{Vec}
-use Rattle.std.proofs.lemmas.Bool.{cases_Bool, cond-true, cond-false}
+use Rattle.std.proofs.lemmas.Bool.{cond-true, cond-false}
 use Rattle.std.proofs.lemmas.Cmp.{eq_by_cmp_equiv, nat_list_cmp_total}
 use Rattle.std.proofs.lemmas.Map.Keys.{sorted_head, sorted_tail}
 use Rattle.std.proofs.lemmas.Map.Text.{is_eq-slice_cmp}
@@ -54,12 +54,12 @@ same_members_trans xs ys zs a b = same_members_of xs zs (λ s h. has_there ys zs
 -- the same numbers stand in both
 pub same_among : (xs ys : List ℕ) → IsTrue (same_members xs ys) → (s : ℕ) → among xs s ≡ among ys s
 same_among xs ys t s = elim (either (among xs s)) [
-    | inl a ↦ a ∙ sym (among_of_has ys s (has_there xs ys t s (has_of_among xs s a)))
-    | inr a ↦ elim (either (among ys s)) [
-      | inl b ↦ absurd (not_both (among_of_has xs s (has_here xs ys t s (has_of_among ys s b))) a)
-      | inr b ↦ a ∙ sym b
-    ]
+  | inl a ↦ a ∙ sym (among_of_has ys s (has_there xs ys t s (has_of_among xs s a)))
+  | inr a ↦ elim (either (among ys s)) [
+    | inl b ↦ absurd (not_both (among_of_has xs s (has_here xs ys t s (has_of_among ys s b))) a)
+    | inr b ↦ a ∙ sym b
   ]
+]
 
 -- ---- keys
 
@@ -81,8 +81,8 @@ same_rising (x ∷ xs) (y ∷ ys) a b f g =
       | inr h ↦ elim (g y (inl refl)) [ inl e ↦ sym e | inr k ↦ (let p : y < x = over_y x h in let q : x < y = over_x y k in absurd (omega arith)) ]
     ] in
     let rest : xs ≡ ys = same_rising xs ys (sorted_tail nat_cmp x xs a) (sorted_tail nat_cmp y ys b)
-      (λ s h. elim (f s (inr h)) [ inr k ↦ k | inl e ↦ (let p : x < s = over_x s h in absurd (omega arith)) ])
-      (λ s h. elim (g s (inr h)) [ inr k ↦ k | inl e ↦ (let p : y < s = over_y s h in absurd (omega arith)) ]) in
+    (λ s h. elim (f s (inr h)) [ inr k ↦ k | inl e ↦ (let p : x < s = over_x s h in absurd (omega arith)) ])
+    (λ s h. elim (g s (inr h)) [ inr k ↦ k | inl e ↦ (let p : y < s = over_y s h in absurd (omega arith)) ]) in
     λ i. first i ∷ rest i
 
 key_has : {xs key : List ℕ} → IsKeyOf xs key → (s : ℕ) → Has xs s → Has key s
@@ -108,18 +108,18 @@ module _ {K : Type 0} (eq : K → K → Bool) (test : K → Bool) where
 
 apart : (bs cs ks : List ℕ) → bytes_eq bs cs ≡ false → is_eq (slice_cmp nat_cmp bs ks) ≡ true → is_eq (slice_cmp nat_cmp cs ks) ≡ false
 apart bs cs ks n y = elim (either (is_eq (slice_cmp nat_cmp cs ks))) [
-    | inr f ↦ f
-    | inl t ↦ (
+  | inr f ↦ f
+  | inl t ↦ (
       let b : bs ≡ ks = (bytes_decides bs ks).0 (sym (is_eq-slice_cmp bs ks) ∙ y) in
       let c : cs ≡ ks = (bytes_decides cs ks).0 (sym (is_eq-slice_cmp cs ks) ∙ t) in
       absurd (not_both ((bytes_decides bs cs).1 (b ∙ sym c)) n))
-  ]
+]
 
 pub updated : {X Y : Type 0} (key : List ℕ) (old new : BTreeMap (Vec ℕ Y) X) (w : Option X)
     → UpdatesBy (λ (k l : Vec ℕ Y). slice_cmp nat_cmp k.items l.items) (λ k. slice_cmp nat_cmp key k.items) old new w
     → (q : List ℕ) → value_at new q ≡ cond (bytes_eq key q) w (value_at old q)
 updated {X} {Y} key old new w h q = elim (either (bytes_eq key q)) [
-    | inl y ↦ subst (λ l. value_at new l ≡ w) ((bytes_decides key q).0 y) h.1 ∙ sym (cond-true (bytes_eq key q) w (value_at old q) y)
-    | inr n ↦ other_entries _ _ _ _ h.3 _ (λ k l. (eq_by_cmp_equiv nat_list_cmp_total).congr q k.items l.items) (λ k. apart key q k.items n)
-        ∙ sym (cond-false (bytes_eq key q) w (value_at old q) n)
-  ]
+  | inl y ↦ subst (λ l. value_at new l ≡ w) ((bytes_decides key q).0 y) h.1 ∙ sym (cond-true (bytes_eq key q) w (value_at old q) y)
+  | inr n ↦ other_entries _ _ _ _ h.3 _ (λ k l. (eq_by_cmp_equiv nat_list_cmp_total).congr q k.items l.items) (λ k. apart key q k.items n)
+      ∙ sym (cond-false (bytes_eq key q) w (value_at old q) n)
+]

@@ -1,5 +1,5 @@
 -- Tables in which a slot got a row of each kind.
-use Rattle.std.proofs.Common.{◌≡◌, ℕ, ◌<◌, Bool, List, Option, Some, None, length}
+use Rattle.std.proofs.Common.{◌≡◌, ℕ, ◌<◌, Bool, List, Some, None, length}
 use Rattle.std.proofs.lemmas.List.{get_or-set_same}
 use Rattle.ad_base.specs.declared.limits.Kind.{Kind}
 use Rattle.ad_base.specs.declared.limits.Kind.TheVariants.{Bottom, Top, Star}

@@ -1,9 +1,8 @@
-ghost use Rattle.std.specs.Prelude.{◌≡◌, ◌≤◌, ◌+◌, ◌<◌, ◌^◌, ℕ, length, map, IsTrue, IfOk, OnOk};
+ghost use Rattle.std.specs.Prelude.{◌≡◌, ◌+◌, ◌<◌, ◌^◌, ℕ, length, map, IsTrue, IfOk, OnOk};
 ghost use Rattle.std.specs.List.{All, AllZip};
 ghost use Rattle.std.specs.Arc.{arc_value};
 ghost use Rattle.ad_base.specs.Limits.{AreWithinStandard};
 ghost use Rattle.ad_bits.specs.Rows.{has};
-ghost use Rattle.ad_theory.specs.Genuine.{IsGenuine};
 ghost use Rattle.ad_theory.specs.Numbers.{among, AreSizesOf};
 ghost use Rattle.ad_theory.specs.Tally.{IsRaisedBy};
 ghost use Rattle.ad_genuine.specs.Found.{IsGenuineRow};

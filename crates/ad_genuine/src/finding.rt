@@ -1,4 +1,4 @@
-ghost use Rattle.std.specs.Prelude.{◌≡◌, ◌≤◌, ◌*◌, IfOk};
+ghost use Rattle.std.specs.Prelude.{◌≤◌, ◌*◌, IfOk};
 ghost use Rattle.ad_base.specs.Limits.{AreWithinStandard};
 ghost use Rattle.ad_decomposition.specs.Tables.{AreGenuine};
 ghost use Rattle.ad_theory.specs.Numbers.{AreSizesOf};
@@ -30,8 +30,8 @@ pub fn scratch<U: Universe + Sync, E: Extractor + Send>(
     ensures tests { tally.old.tests ≤ tally.new.tests }
     ensures counted { tally.old.runs ≤ tally.new.runs }
 {
-    let groups = grouped(alloc, universe)?;
-    let found = find_shared::<U, E>(rt, alloc, universe, limits, &groups.firsts)?;
+    let grouping = grouped(alloc, universe)?;
+    let found = find_shared::<U, E>(rt, alloc, universe, limits, &grouping.firsts)?;
     tally.add(&found.tally);
-    rows_for(alloc, &groups.groups, &found)
+    rows_for(alloc, &grouping.groups, &found)
 }

@@ -18,9 +18,9 @@ use std::sync::Arc;
 // The rows that were found for some slots, of each kind in the order of the slots, and what was counted for them.
 #[derive(Drop)]
 pub(crate) struct Found {
-    pub(crate) bottom: Vec<Arc<Row>>,
-    pub(crate) top: Vec<Arc<Row>>,
-    pub(crate) star: Vec<Arc<Row>>,
+    bottom: Vec<Arc<Row>>,
+    top: Vec<Arc<Row>>,
+    star: Vec<Arc<Row>>,
     pub(crate) tally: Tally,
 }
 

@@ -1,6 +1,6 @@
 ghost use Rattle.std.specs.Prelude.{◌≡◌, ◌+◌, ◌∷◌, ◌++◌, [], ◌<◌, ◌⊎◌, ℕ, List, Option, Some, None, IsTrue, IfOk, cond, length};
 ghost use Rattle.std.specs.Str.{bytes_eq};
-ghost use Rattle.ad_genuine.specs.Keys.{IsKeyOf, value_at};
+ghost use Rattle.ad_genuine.specs.Keys.{value_at};
 ghost use Rattle.ad_genuine.specs.Groups.{AreGroups, AreKnown};
 
 use crate::key::key_of;
@@ -11,7 +11,7 @@ use std::collections::BTreeMap;
 
 // The live slots, grouped by signature.
 #[derive(Drop)]
-pub(crate) struct Groups {
+pub(crate) struct Grouping {
     // The group of each slot; None exactly where it isn't live.
     pub(crate) groups: Vec<Option<u32>>,
     // The first slot of each group.
@@ -66,10 +66,10 @@ fn place<U: Universe>(
 }
 
 // Groups the live slots by signature.
-pub(crate) fn grouped<U: Universe>(alloc: Global, universe: &U) -> Result<Groups, Memory>
-    ensures groups { IfOk result (λ groups. AreGroups (U.symbols_of universe.now) (U.is_live universe.now) (U.slot_count universe.now)
-        groups.groups.items groups.firsts.items) }
-    ensures all { IfOk result (λ groups. (slot : ℕ) → IsTrue (U.is_live universe.now slot) → slot < length groups.groups.items) }
+pub(crate) fn grouped<U: Universe>(alloc: Global, universe: &U) -> Result<Grouping, Memory>
+    ensures groups { IfOk result (λ grouping. AreGroups (U.symbols_of universe.now) (U.is_live universe.now) (U.slot_count universe.now)
+        grouping.groups.items grouping.firsts.items) }
+    ensures all { IfOk result (λ grouping. (slot : ℕ) → IsTrue (U.is_live universe.now slot) → slot < length grouping.groups.items) }
 {
     let mut known = BTreeMap::new(alloc);
     let mut firsts = Vec::new(alloc);
@@ -78,5 +78,5 @@ pub(crate) fn grouped<U: Universe>(alloc: Global, universe: &U) -> Result<Groups
         let group = place(alloc, universe, &mut known, &mut firsts, slot)?;
         groups.push(group)?;
     }
-    Ok(Groups { groups, firsts })
+    Ok(Grouping { groups, firsts })
 }

@@ -15,7 +15,7 @@ use std::thread::Threads;
 const PARTS: usize = 32;
 
 // Finds the genuine modules of these slots in parts, which threads share.
-pub(crate) fn find_parts<U: Universe + Sync, E: Extractor + Send>(
+fn find_parts<U: Universe + Sync, E: Extractor + Send>(
     rt: &(impl Threads + Sync),
     alloc: Global,
     universe: &U,

@@ -1,4 +1,4 @@
-ghost use Rattle.std.specs.Prelude.{◌≡◌, ◌≢◌, ◌≤◌, ◌<◌, ◌^◌, ℕ, [], Some, None, length, slice_index_or, IfOk, OnOk};
+ghost use Rattle.std.specs.Prelude.{◌≡◌, ◌≢◌, ◌<◌, ◌^◌, ℕ, [], Some, None, length, slice_index_or, IfOk, OnOk};
 ghost use Rattle.std.specs.Option.{option_map};
 ghost use Rattle.ad_base.specs.declared.limits.Kind.{Kind};
 ghost use Rattle.ad_theory.specs.Rows.{of_kind, row_of};
@@ -10,12 +10,7 @@ use ad_theory::Rows;
 use std::alloc::Global;
 
 // Gives the slot the rows of its group, where it has one.
-fn put_group(
-    rows: &mut Rows,
-    slot: u32,
-    group: Option<u32>,
-    found: &Found,
-) -> Result<(), Memory>
+fn put_group(rows: &mut Rows, slot: u32, group: Option<u32>, found: &Found) -> Result<(), Memory>
     requires slot { (kind : Kind) → slot < length (of_kind rows.old kind) }
     requires empty { (kind : Kind) → row_of rows.old kind slot ≡ None }
     requires group { (kind : Kind) (g : ℕ) → group ≡ Some g → g < length (rows_of_kind found.now kind) }
@@ -34,11 +29,7 @@ fn put_group(
 }
 
 // The rows of all slots, from those of their groups.
-pub(crate) fn rows_for(
-    alloc: Global,
-    groups: &[Option<u32>],
-    found: &Found,
-) -> Result<Rows, Memory>
+pub(crate) fn rows_for(alloc: Global, groups: &[Option<u32>], found: &Found) -> Result<Rows, Memory>
     requires few { length groups.now < 2 ^ 32 }
     requires groups { (kind : Kind) (i g : ℕ) → slice_index_or groups.now i None ≡ Some g → g < length (rows_of_kind found.now kind) }
     ensures { IfOk result (λ rows. (kind : Kind) (i : ℕ) →

@@ -1,5 +1,5 @@
 -- One more symbol is a member.
-use Rattle.std.proofs.Common.{◌≡◌, ◌==◌, ◌+◌, ◌||◌, ℕ, Bool, true, false, List, [], ◌∷◌, ◌++◌, get_or, take, length, sym, ap, subst, ◌∙◌, eq-eqb, eqb-true, arith, IsTrue, IsFalse, inl, inr, refl}
+use Rattle.std.proofs.Common.{◌≡◌, ◌==◌, ◌||◌, ℕ, Bool, true, false, List, [], ◌∷◌, ◌++◌, get_or, take, sym, ap, subst, ◌∙◌, eq-eqb, eqb-true, arith, IsTrue, inl, inr, refl}
 use Rattle.std.proofs.lemmas.Bool.{cases_eq}
 use Rattle.std.proofs.lemmas.List.{take_more}
 use Rattle.std.proofs.lemmas.List.Folds.{list_any-append}
@@ -39,8 +39,8 @@ loop-symbol-preserved c =
     let v = c.loop-symbol.invariant in
     record {
       members = λ s. elim (cases_eq s x) [
-          | inl e ↦ subst (λ k. IsTrue (has c.set.new.self k)) (sym e) c.set.ensures.member ∙ sym (among_last (take i xs) x s e)
-          | inr ne ↦ c.set.ensures.others s ne ∙ v.members s ∙ sym (among_before (take i xs) x s ne)
-        ] ∙ ap (λ l. among l s) (sym (take_more xs i 0 c.loop-symbol-test.true));
+        | inl e ↦ subst (λ k. IsTrue (has c.set.new.self k)) (sym e) c.set.ensures.member ∙ sym (among_last (take i xs) x s e)
+        | inr ne ↦ c.set.ensures.others s ne ∙ v.members s ∙ sym (among_before (take i xs) x s ne)
+      ] ∙ ap (λ l. among l s) (sym (take_more xs i 0 c.loop-symbol-test.true));
       size = c.set.ensures.size ∙ v.size;
     }

@@ -1,5 +1,5 @@
 -- The map has the group of the key, or a new group begins with the slot.
-use Rattle.std.proofs.Common.{◌≡◌, ◌∙◌, ap, sym, inl, inr, refl, rules}
+use Rattle.std.proofs.Common.{◌∙◌, ap, sym, inl, inr, refl, rules}
 use Rattle.ad_genuine.specs.Keys.{value_at}
 use Rattle.ad_genuine.proofs.KeyLemmas.{updated}
 use Rattle.ad_genuine.proofs.grouping.group_of.Goals as goal

@@ -1,5 +1,5 @@
 -- One slot more is grouped: it is not live, or its key is known, or it is new.
-use Rattle.std.proofs.Common.{◌≡◌, ◌+◌, List, [], ◌∷◌, ◌++◌, Option, Some, ℕ, inl, inr, sym, subst, ap, ◌∙◌, length, IsTrue, rules}
+use Rattle.std.proofs.Common.{◌+◌, List, [], ◌∷◌, ◌++◌, Some, ℕ, inl, inr, sym, subst, IsTrue, rules}
 use Rattle.ad_genuine.specs.Keys.{IsKeyOf, value_at}
 use Rattle.ad_genuine.specs.Groups.{AreGroups, AreKnown}
 use Rattle.ad_genuine.proofs.GroupLemmas.{dead_placed, old_placed, new_placed, known_again, known_same, unknown_none, known_new}
@@ -25,14 +25,14 @@ returns g c = λ groups are known.
     let Placed : ℕ → List ℕ → Type 0 = λ k l. AreGroups symbols live (n + 1) (groups ++ Some k ∷ []) l × AreKnown symbols new l in
     elim c.in_ok-group.ensures.group [
       | inl h ↦ (
-        let like = known_same symbols old new firsts key group n is_key updates known h.0 in
-        subst (λ l. Placed group l) (sym h.1) (
-          old_placed symbols live n groups firsts are is_live group like.0 like.1,
-          known_again symbols old new firsts key group n is_key updates known h.0,
-        ))
+          let like = known_same symbols old new firsts key group n is_key updates known h.0 in
+          subst (λ l. Placed group l) (sym h.1) (
+            old_placed symbols live n groups firsts are is_live group like.0 like.1,
+            known_again symbols old new firsts key group n is_key updates known h.0,
+          ))
       | inr h ↦ subst (λ l. Placed group l) (sym h.2) (
-          subst (λ k. AreGroups symbols live (n + 1) (groups ++ Some k ∷ []) (firsts ++ n ∷ [])) (sym h.1)
+        subst (λ k. AreGroups symbols live (n + 1) (groups ++ Some k ∷ []) (firsts ++ n ∷ [])) (sym h.1)
             (new_placed symbols live n groups firsts are is_live (unknown_none symbols old new firsts key group n is_key updates known h.0)),
-          known_new symbols old new firsts key group n is_key updates known h.0 h.1,
-        )
+        known_new symbols old new firsts key group n is_key updates known h.0 h.1,
+      )
     ]

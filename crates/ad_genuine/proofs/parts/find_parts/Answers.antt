@@ -1,5 +1,5 @@
 -- Each part is found by a call of its own.
-use Rattle.std.proofs.Common.{◌≡◌, ℕ, ◌<◌, ◌≤◌, List, Ok, Err, Result, Vec, Global, length, map, max, sym, subst, ap, ◌∙◌, arith, IsTrue, Bor}
+use Rattle.std.proofs.Common.{◌≡◌, ℕ, ◌≤◌, List, Ok, Err, Result, Vec, Global, length, map, max, sym, subst, ap, ◌∙◌, arith, IsTrue, Bor}
 use Rattle.std.specs.List.{All, AllZip, flat_map}
 use Rattle.std.specs.Prelude.{Contains, IfOk}
 use Rattle.rayon.specs.Lists.{chunks_of}
@@ -20,8 +20,8 @@ collect-requires-clause-ready g c _ _ =
     let P : ℕ → Type 0 = λ slot. IsTrue (g.U.Universe.is_live c.args.universe.now slot) in
     let inside = parts_all P 65536 (chunks_of size it.slice.now) (subst (All P) (sym whole) c.requires.live) (subst (λ l. length l ≤ 65536) (sym whole) c.requires.few) in
     λ k d lt x e. rw c.map.ensures.f (
-      let h = inside k d lt in
-      ((c.requires.limits, c.requires.sizes, subst (All P) (sym e) h.0, subst (λ l. length l ≤ 65536) (sym e) h.1), λ y p. tt))
+    let h = inside k d lt in
+    ((c.requires.limits, c.requires.sizes, subst (All P) (sym e) h.0, subst (λ l. length l ≤ 65536) (sym e) h.1), λ y p. tt))
 
 pub returns : goal.returns
 returns g c =
@@ -37,8 +37,8 @@ returns g c =
     let chain = rw c.map.ensures.f at done.1 in
     let zs = chain.0 in
     if_ok (λ (v : Vec Found Global). (ys : List Found) × (done.0 ≡ map Ok ys) × (v.items ≡ ys)) _ (λ e. Contains done.0 (Err e)) c.in_ok-collect.field-0 done.2
-      (λ parts h. (
-        map (λ z. z.now) zs,
-        ap (flat_map (λ l. l)) chain.1 ∙ whole,
-        subst (λ l. AllZip R (map (λ z. z.now) zs) l) (sym h.2) (zip_oks (λ z. z.now) R S (λ z y s. s) zs h.0 (subst (λ l. AllZip S zs l) h.1 chain.2)),
-      ))
+    (λ parts h. (
+      map (λ z. z.now) zs,
+      ap (flat_map (λ l. l)) chain.1 ∙ whole,
+      subst (λ l. AllZip R (map (λ z. z.now) zs) l) (sym h.2) (zip_oks (λ z. z.now) R S (λ z y s. s) zs h.0 (subst (λ l. AllZip S zs l) h.1 chain.2)),
+    ))

@@ -1,5 +1,5 @@
 -- The slot gets a row of each kind.
-use Rattle.std.proofs.Common.{◌≡◌, ℕ, ◌<◌, Bool, List, [], Option, Some, length, slice_index_or, sym, subst, ap, ◌∙◌}
+use Rattle.std.proofs.Common.{◌≡◌, ◌<◌, Bool, List, [], length, slice_index_or, sym, subst, ap, ◌∙◌}
 use Rattle.std.specs.Option.{option_map}
 use Rattle.ad_base.specs.declared.limits.Kind.{Kind}
 use Rattle.ad_base.specs.declared.limits.Kind.TheVariants.{Bottom, Top, Star}
@@ -32,8 +32,8 @@ returns-clause-here c = λ kind.
     let rows : Kind → List Bool = λ k. slice_index_or (rows_of_kind c.args.found.now k) c.in-Some.group [] in
     let first : c.put.new.self ≡ with_row old Bottom slot (rows Bottom) = c.put.ensures ∙ ap (with_row old Bottom slot) c.in_ok-share.ensures in
     let second : c.put-2.new.self ≡ with_row (with_row old Bottom slot (rows Bottom)) Top slot (rows Top) =
-      c.put-2.ensures ∙ ap (with_row c.put.new.self Top slot) c.in_ok-share-2.ensures ∙ ap (λ (t : Tables). with_row t Top slot (rows Top)) first in
+    c.put-2.ensures ∙ ap (with_row c.put.new.self Top slot) c.in_ok-share-2.ensures ∙ ap (λ (t : Tables). with_row t Top slot (rows Top)) first in
     let third : c.put-3.new.self ≡ with_each old slot rows =
-      c.put-3.ensures ∙ ap (with_row c.put-2.new.self Star slot) c.in_ok-share-3.ensures ∙ ap (λ (t : Tables). with_row t Star slot (rows Star)) second in
+    c.put-3.ensures ∙ ap (with_row c.put-2.new.self Star slot) c.in_ok-share-3.ensures ∙ ap (λ (t : Tables). with_row t Star slot (rows Star)) second in
     ap (λ (t : Tables). row_of t kind slot) third ∙ row_of-with_each old slot rows c.requires.slot kind
     ∙ sym (ap (option_map (λ g. slice_index_or (rows_of_kind c.args.found.now kind) g [])) c.in-Some.is)

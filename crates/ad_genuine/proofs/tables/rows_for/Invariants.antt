@@ -1,5 +1,5 @@
 -- The slots below this one have the rows of their groups, and the others none.
-use Rattle.std.proofs.Common.{◌≡◌, ℕ, ◌<◌, ◌≤◌, [], Option, None, length, slice_index_or}
+use Rattle.std.proofs.Common.{◌≡◌, ℕ, ◌<◌, ◌≤◌, [], None, length, slice_index_or}
 use Rattle.std.specs.Option.{option_map}
 use Rattle.ad_base.specs.declared.limits.Kind.{Kind}
 use Rattle.ad_theory.specs.Rows.{of_kind, row_of}

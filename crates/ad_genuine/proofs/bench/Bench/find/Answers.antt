@@ -1,5 +1,5 @@
 -- The seed is the slot's signature.
-use Rattle.std.proofs.Common.{◌≡◌, ℕ, Bool, false, IsTrue, sym, ap, subst, ◌∙◌, length}
+use Rattle.std.proofs.Common.{◌≡◌, ℕ, false, IsTrue, ap, subst, ◌∙◌, length}
 use Rattle.std.proofs.lemmas.List.{length-replicate}
 use Rattle.ad_bits.specs.Rows.{has}
 use Rattle.ad_theory.specs.Numbers.{among, IsNumberedModule}

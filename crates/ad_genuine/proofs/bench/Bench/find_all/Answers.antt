@@ -1,5 +1,5 @@
 -- One more row is found.
-use Rattle.std.proofs.Common.{◌≡◌, ◌+◌, ℕ, Bool, List, [], ◌∷◌, ◌++◌, Global, map, take, get_or, inl, inr, sym, subst, ap, ◌∙◌, arith, rules}
+use Rattle.std.proofs.Common.{◌≡◌, Bool, List, [], ◌∷◌, ◌++◌, Global, map, take, get_or, inl, inr, sym, subst, ap, ◌∙◌, arith, rules}
 use Rattle.std.specs.Arc.{arc_value}
 use Rattle.std.specs.List.{AllZip}
 use Rattle.std.specs.declared.sync.Arc.{Arc}
@@ -20,7 +20,7 @@ loop-slot-preserved g c =
     let value = λ (row : Arc (List Bool) Global). arc_value row in
     let pushed : c.push.new.self.items ≡ c.loop-slot.rows.items ++ arc ∷ [] = search rules in
     let rows : map value c.push.new.self.items ≡ map value c.loop-slot.rows.items ++ c.in_ok-row.row ∷ [] =
-      ap (map value) pushed ∙ map-append value c.loop-slot.rows.items (arc ∷ []) ∙ ap (λ r. map value c.loop-slot.rows.items ++ r ∷ []) c.in_ok-new.ensures.ok in
+    ap (map value) pushed ∙ map-append value c.loop-slot.rows.items (arc ∷ []) ∙ ap (λ r. map value c.loop-slot.rows.items ++ r ∷ []) c.in_ok-new.ensures.ok in
     record {
       found = subst (λ l. AllZip R l (map value c.push.new.self.items)) (sym (take_more slots i 0 c.loop-slot-test.true))
           (subst (λ r. AllZip R (take i slots ++ slot ∷ []) r) (sym rows) (all_zipped_more R (take i slots) (map value c.loop-slot.rows.items) slot c.in_ok-row.row v.found c.in_ok-row.ensures.found));
