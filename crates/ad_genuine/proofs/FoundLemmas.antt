@@ -1,7 +1,8 @@
 -- What was found in parts, put together.
-use Rattle.std.proofs.Common.{◌≡◌, ℕ, ◌*◌, ◌<◌, ◌≤◌, ◌^◌, Bool, List, [], ◌∷◌, length, get_or, refl, sym, subst, ap, ◌∙◌, length-append, arith, zero, suc}
+use Rattle.std.proofs.Common.{◌≡◌, ◌+◌, ◌++◌, ℕ, ◌*◌, ◌<◌, ◌≤◌, ◌^◌, Bool, List, [], ◌∷◌, length, get_or, refl, sym, subst, ap, ◌∙◌, append-nil, length-append, arith, zero, suc}
 use Rattle.std.specs.List.{AllZip, flat_map, sum_by}
-use Rattle.std.proofs.lemmas.List.Sums.{sum_by-cons}
+use Rattle.std.proofs.lemmas.Grind.{flat_map-append}
+use Rattle.std.proofs.lemmas.List.Sums.{sum_by-append, sum_by-cons}
 use Rattle.rayon.proofs.ListFacts.{AllZip-append}
 use Rattle.ad_base.specs.declared.limits.Kind.{Kind}
 use Rattle.ad_base.specs.declared.limits.Side.{Side}
@@ -55,3 +56,16 @@ module _ (symbols : ℕ → List ℕ) (local : Side → (ℕ → Bool) → ℕ �
             (subst (λ l. AllZip (IsGenuineRow symbols local live slots kind) (flat_map (λ l. l) chunks) l) (sym (rows kind)) (parts_rows kind chunks parts each));
         runs = runs (omega (arith, count, few)) ∙ count;
       }
+
+-- ---- one part more, at the end
+
+pub rows-push : (kind : Kind) (parts : List Found) (part : Found) → flat_map (λ p. rows_of_kind p kind) (parts ++ part ∷ []) ≡ flat_map (λ p. rows_of_kind p kind) parts ++ rows_of_kind part kind
+rows-push kind parts part =
+    let rows = λ (p : Found). rows_of_kind p kind in
+    flat_map-append rows parts (part ∷ []) ∙ ap (λ l. flat_map rows parts ++ l) (append-nil (rows part))
+
+pub runs-push : (parts : List Found) (part : Found) → sum_by runs_of (parts ++ part ∷ []) ≡ sum_by runs_of parts + runs_of part
+runs-push parts part =
+    let all = sum_by-append runs_of parts (part ∷ []) in
+    let one = sum_by-cons runs_of part [] in
+    omega (arith, all, one)
