@@ -1,0 +1,7 @@
+pub mod KeyLemmas
+pub mod FirstLemmas
+pub mod GroupLemmas
+pub mod PartLemmas
+pub mod FoundLemmas
+pub mod TableLemmas
+pub mod GenuineRows

@@ -1,0 +1,42 @@
+-- The rows of the groups are those of their slots.
+use Rattle.std.proofs.Common.{◌*◌, ◌<◌, [], None, get_or, length, sym, subst, ap, ◌∙◌}
+use Rattle.std.specs.Option.{option_map}
+use Rattle.ad_theory.specs.Tally.{IsRaisedBy}
+use Rattle.ad_genuine.specs.Found.{AreFound, rows_of_kind}
+use Rattle.ad_genuine.proofs.GenuineRows.{group_below, tables_genuine}
+use Rattle.rayon.proofs.ListFacts.{IfOk-then}
+use Rattle.ad_genuine.proofs.finding.scratch.Goals as goal
+
+pub rows_for-requires-clause-groups : goal.rows_for-requires-clause-groups
+rows_for-requires-clause-groups g c =
+    let u = c.args.universe.now in
+    let symbols = g.U.Universe.symbols_of u in
+    let local = g.U.Universe.is_local u in
+    let live = g.U.Universe.is_live u in
+    let slots = g.U.Universe.slot_count u in
+    let are = c.in_ok-grouping.ensures.groups in
+    let found = c.in_ok-found.found in
+    let rows = subst (λ l. AreFound symbols local live slots l found) c.deref.ensures.value c.in_ok-found.ensures in
+    λ kind i k e. group_below symbols local live slots c.in_ok-grouping.grouping.groups.items c.in_ok-grouping.grouping.firsts.items found are rows
+    (λ j t. subst (λ n. j < n) are.long (c.in_ok-grouping.ensures.all j t)) kind i k (ap (λ l. get_or l i None) (sym c.deref-2.ensures.value) ∙ e)
+
+pub returns-clause-rows : goal.returns-clause-rows
+returns-clause-rows g c =
+    let u = c.args.universe.now in
+    let symbols = g.U.Universe.symbols_of u in
+    let local = g.U.Universe.is_local u in
+    let live = g.U.Universe.is_live u in
+    let slots = g.U.Universe.slot_count u in
+    let are = c.in_ok-grouping.ensures.groups in
+    let found = c.in_ok-found.found in
+    let rows = subst (λ l. AreFound symbols local live slots l found) c.deref.ensures.value c.in_ok-found.ensures in
+    IfOk-then c.rows_for.result _ _ c.rows_for.ensures (λ tables each.
+    tables_genuine symbols local live slots c.in_ok-grouping.grouping.groups.items c.in_ok-grouping.grouping.firsts.items found are rows
+    (λ j t. subst (λ n. j < n) are.long (c.in_ok-grouping.ensures.all j t))
+    tables (λ kind i. each kind i ∙ ap (λ l. option_map (λ k. get_or (rows_of_kind found kind) k []) (get_or l i None)) c.deref-2.ensures.value))
+
+pub returns-clause-runs : goal.returns-clause-runs
+returns-clause-runs g c =
+    let count = ap length c.deref.ensures.value ∙ ap length c.in_ok-grouping.ensures.groups.firsts_are in
+    IfOk-then c.rows_for.result _ _ c.rows_for.ensures (λ tables each.
+    subst (λ n. IsRaisedBy n c.args.tally.now.runs c.add.new.self.runs) (c.in_ok-found.ensures.runs ∙ ap (λ n. 3 * n) count) c.add.ensures.runs)
