@@ -1,5 +1,5 @@
 -- Lists that are split in parts, side by side.
-use Rattle.std.proofs.Common.{ℕ, ◌+◌, ◌≤◌, List, [], ◌∷◌, ◌++◌, Ok, Err, Result, length, map, subst, length-append, arith}
+use Rattle.std.proofs.Common.{◌≡◌, ℕ, ◌+◌, ◌≤◌, List, [], ◌∷◌, ◌++◌, Ok, Err, Result, length, map, sym, subst, length-append, arith}
 use Rattle.std.specs.List.{All, AllZip, flat_map}
 use Rattle.std.specs.Prelude.{IfOk, MatchResult}
 use Rattle.std.proofs.lemmas.List.{get_or_append_left, get_or-append-add}
@@ -12,13 +12,16 @@ module _ {X : Type 0} (P : X → Type 0) where
   all_right : (xs ys : List X) → All P (xs ++ ys) → All P ys
   all_right xs ys all k d l = subst P (get_or-append-add xs ys k d) (all (length xs + k) d (omega (arith, length-append xs ys)))
 
-  -- what holds of each element holds of each of a part, and no part is longer than the whole
-  pub parts_all : (n : ℕ) (parts : List (List X)) → All P (flat_map (λ part. part) parts) → length (flat_map (λ part. part) parts) ≤ n → All (λ part. All P part × (length part ≤ n)) parts
-  parts_all n [] all few = All-nil (λ part. All P part × (length part ≤ n))
-  parts_all n (part ∷ parts) all few =
+  each_part : (n : ℕ) (parts : List (List X)) → All P (flat_map (λ part. part) parts) → length (flat_map (λ part. part) parts) ≤ n → All (λ part. All P part × (length part ≤ n)) parts
+  each_part n [] all few = All-nil (λ part. All P part × (length part ≤ n))
+  each_part n (part ∷ parts) all few =
       let rest = flat_map (λ l. l) parts in
       let long = length-append part rest in
-      All-cons (λ part. All P part × (length part ≤ n)) part parts (all_left part rest all, omega (arith, long)) (parts_all n parts (all_right part rest all) (omega (arith, long)))
+      All-cons (λ part. All P part × (length part ≤ n)) part parts (all_left part rest all, omega (arith, long)) (each_part n parts (all_right part rest all) (omega (arith, long)))
+
+  -- what holds of each element of a list holds of each of its parts, and no part is longer than the list may be
+  pub parts_all : (n : ℕ) (parts : List (List X)) (xs : List X) → flat_map (λ part. part) parts ≡ xs → All P xs → length xs ≤ n → All (λ part. All P part × (length part ≤ n)) parts
+  parts_all n parts xs whole all few = each_part n parts (subst (All P) (sym whole) all) (subst (λ l. length l ≤ n) (sym whole) few)
 
 -- what holds of the value of a result that is `Ok`
 pub if_ok : {X E : Type 0} (P Q : X → Type 0) (F : E → Type 0) (r : Result X E) → MatchResult r P F → ((x : X) → P x → Q x) → IfOk r Q

@@ -7,8 +7,6 @@ mod axioms;
 #[cfg(test)]
 mod expressions;
 #[cfg(test)]
-mod genuine;
-#[cfg(test)]
 mod modules;
 #[cfg(test)]
 mod numbered;

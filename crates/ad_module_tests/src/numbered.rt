@@ -7,16 +7,14 @@ use ad_bits::Row;
 use ad_bottom::local_bottom;
 use ad_extract::Queue;
 use ad_flat::{FlatUniverse, Tables, add};
-use ad_genuine::scratch;
 use ad_signature::Symbols;
 use ad_star::Starred;
-use ad_theory::{Extractor, Half, Rows, Tally, empty_row};
+use ad_theory::{Extractor, Half, Tally, empty_row};
 use ad_top::local_top;
 use ad_tree::{Axiom, Naming, Op, Seed, Seen};
 use std::alloc::Global;
 use std::hash::RandomState;
 use std::test::Fail;
-use std::thread::Threads;
 
 /// How many axioms and entities there may be.
 pub(crate) const MOST: u32 = 32;
@@ -156,22 +154,5 @@ impl Numbered {
             &mut tally,
         );
         Ok(out)
-    }
-
-    /// The genuine modules of all axioms, and how many modules were extracted for them.
-    pub(crate) fn genuine(
-        &self,
-        rt: &(impl Threads + Sync),
-        alloc: Global,
-    ) -> Result<(Rows, u64), Memory> {
-        let mut tally = Tally::new();
-        let rows = scratch::<FlatUniverse<Both>, Starred<Queue>>(
-            rt,
-            alloc,
-            &self.universe,
-            &limits(),
-            &mut tally,
-        )?;
-        Ok((rows, tally.runs()))
     }
 }

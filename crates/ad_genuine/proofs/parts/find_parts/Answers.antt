@@ -18,7 +18,7 @@ collect-requires-clause-ready g c _ _ =
     let slice : it.slice.now ≡ slots = ap (λ m. m.base.slice.now) c.map.ensures.base ∙ ap (λ b. b.slice.now) c.with_min_len.ensures.base ∙ c.par_chunks.ensures.slice in
     let whole : flat_map (λ l. l) (chunks_of size it.slice.now) ≡ slots = chunks_of-concat size it.slice.now (omega arith) ∙ slice in
     let P : ℕ → Type 0 = λ slot. IsTrue (g.U.Universe.is_live c.args.universe.now slot) in
-    let inside = parts_all P 65536 (chunks_of size it.slice.now) (subst (All P) (sym whole) c.requires.live) (subst (λ l. length l ≤ 65536) (sym whole) c.requires.few) in
+    let inside = parts_all P 65536 (chunks_of size it.slice.now) slots whole c.requires.live c.requires.few in
     λ k d lt x e. rw c.map.ensures.f (
     let h = inside k d lt in
     ((c.requires.limits, c.requires.sizes, subst (All P) (sym e) h.0, subst (λ l. length l ≤ 65536) (sym e) h.1), λ y p. tt))
