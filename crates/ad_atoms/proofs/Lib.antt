@@ -3,4 +3,3 @@ pub mod Gathers
 pub mod Places
 pub mod Counts
 pub mod Steps
-pub mod ExampleLemmas

@@ -4,5 +4,3 @@
 pub use numbering::atoms;
 
 mod numbering;
-#[cfg(test)]
-mod tests;

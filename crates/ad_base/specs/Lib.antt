@@ -1,3 +1,4 @@
 pub mod Decimal
 pub mod Words
 pub mod Limits
+pub mod Kinds

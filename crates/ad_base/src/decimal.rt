@@ -44,37 +44,9 @@ fn is_plain_decimal(text: &[u8]) -> bool
     }
 }
 
-fn are_digits(text: &[u8]) -> bool
+/// Whether all bytes are ASCII digits.
+pub fn are_digits(text: &[u8]) -> bool
     ensures { IsTrue result ↔ EachIndex text.now (λ i. IsAsciiDigit (slice_index text.now i)) }
 {
     text.iter().all(|byte| byte.is_ascii_digit())
-}
-
-#[cfg(test)]
-mod tests {
-    use super::*;
-
-    #[test]
-    fn numbers_and_their_digits(rt: HostRuntime) {
-        let table = [
-            ("0", Some(0)),
-            ("7", Some(7)),
-            ("4294967295", Some(4_294_967_295)),
-            ("9999999999", Some(9_999_999_999)),
-            ("", None),
-            ("00", None),
-            ("07", None),
-            ("+7", None),
-            ("7 ", None),
-            ("10000000000", None),
-        ];
-        for (text, value) in table {
-            let found = number(text.as_bytes());
-            assert_eq!(rt; found, value);
-        }
-        let mut out = [b'x'; 20];
-        let count = digits(18_446_744_073_709_551_615, &mut out);
-        assert_eq!(rt; count, 20);
-        assert_eq!(rt; out.as_slice(), b"18446744073709551615".as_slice());
-    }
 }

@@ -1,7 +1,8 @@
 ghost use Rattle.std.specs.Prelude.{◌≡◌, ◌^◌, ◌≤◌};
+ghost use Rattle.ad_base.specs.Limits.{standard};
 
 /// The three kinds of module of an ontology for a seed.
-#[derive(Clone, Copy, Debug, PartialEq, Eq, Hash, PartialOrd, Ord)]
+#[derive(Clone, Copy, Debug, PartialEq, Eq, Hash)]
 pub enum Kind {
     Bottom,
     Top,
@@ -9,14 +10,14 @@ pub enum Kind {
 }
 
 /// The two sides of syntactic locality: names outside the seed are read as empty, or as everything.
-#[derive(Clone, Copy, Debug, PartialEq, Eq, Hash, PartialOrd, Ord)]
+#[derive(Clone, Copy, Debug, PartialEq, Eq, Hash)]
 pub enum Side {
     Bottom,
     Top,
 }
 
 /// The limits that a refusal may name.
-#[derive(Clone, Copy, Debug, PartialEq, Eq, Hash, PartialOrd, Ord)]
+#[derive(Clone, Copy, Debug, PartialEq, Eq, Hash)]
 pub enum Which {
     Axioms,
     Entities,
@@ -26,7 +27,7 @@ pub enum Which {
 }
 
 /// How large an ontology, its text and a session may become.
-#[derive(Clone, Copy, Debug, PartialEq, Eq, Hash)]
+#[derive(Clone, Copy)]
 pub struct Limits {
     /// Logical axioms of an edition.
     pub axioms: u32,
@@ -47,16 +48,17 @@ pub struct Limits {
 impl Limits {
     /// The limits of the program. No limit is ever above its standard.
     pub const fn standard() -> Limits
-        ensures axioms { result.axioms ≡ 16384 }
+        ensures axioms { result.axioms ≡ 20480 }
         ensures entities { result.entities ≡ 65536 }
         ensures bytes { result.bytes ≡ 33554432 }
         ensures depth { result.depth ≡ 128 }
         ensures editions { result.editions ≡ 4294967295 }
         ensures payload { result.payload ≡ 33554432 }
         ensures requests { result.requests ≡ 4294967295 }
+        ensures standard { result ≡ standard }
     {
         Limits {
-            axioms: 16_384,
+            axioms: 20_480,
             entities: 65_536,
             bytes: 33_554_432,
             depth: 128,

@@ -13,7 +13,7 @@ use std::hash::{Hash, Hasher};
 use std::marker::Model;
 
 /// A text, which contracts see as the list of its UTF-8 bytes.
-#[derive(Debug, Drop)]
+#[derive(Drop)]
 pub struct Word {
     text: String,
 }
@@ -103,23 +103,5 @@ impl Hash for Word {
 
     fn hash<H: Hasher>(&self, state: &mut H) {
         self.text.as_str().hash(state);
-    }
-}
-
-#[cfg(test)]
-mod tests {
-    use super::*;
-    use std::test::Fail;
-
-    #[test]
-    fn words(rt: HostRuntime) -> Result<(), Fail> {
-        let word = Word::of(rt.alloc(), "Class")?;
-        let copy = word.copy(rt.alloc())?;
-        assert!(rt; copy == word);
-        assert_eq!(rt; copy.as_str(), "Class");
-        assert_eq!(rt; word.as_bytes(), b"Class".as_slice());
-        let other = Word::of(rt.alloc(), "Classes")?;
-        assert!(rt; word < other);
-        Ok(())
     }
 }

@@ -1,6 +1,6 @@
 -- The arguments of a keyword, read by the shape that it asks for.
 use Rattle.std.proofs.Common.{◌≡◌, ℕ, ◌<◌, ◌≤◌, Bool, true, false, cond, ◌&&◌, List, [], ◌∷◌, ◌++◌, length, map, nat_le, Option, None, Some, IfSome, refl, sym, ◌∙◌, ap, subst, arith, append_assoc}
-use Rattle.std.specs.Option.{option_map}
+use Rattle.std.specs.Option.{option_map, option_zip}
 use Rattle.std.specs.List.{AllByRecursion}
 use Rattle.std.specs.Str.Parse.{IsNumeral, digits_value}
 use Rattle.ad_lex.specs.Lexemes.{Lexeme}
@@ -8,11 +8,11 @@ use Rattle.ad_lex.specs.Lexemes as says
 use Rattle.ad_grammar.specs.Names.{Words, IsName, IsNumber}
 use Rattle.ad_grammar.specs.Shapes.{Text, Then, Many0, Many1, Optional}
 use Rattle.ad_tree.specs.declared.notes.Annotation.{Annotation}
-use Rattle.ad_build.specs.declared.item.Item.{Item}
-use Rattle.ad_build.specs.declared.item.Item.TheVariants as i
-use Rattle.ad_build.specs.Items.{as_number}
-use Rattle.ad_build.specs.Shapes.{both, all_three, one, two, three, optional, counted, each, first_and_each}
-use Rattle.ad_build.specs.Stacks.{leading_notes, taking}
+use Rattle.ad_terms.specs.declared.item.Item.{Item}
+use Rattle.ad_terms.specs.declared.item.Item.TheVariants as i
+use Rattle.ad_terms.specs.Items.{as_number}
+use Rattle.ad_terms.specs.Shapes.{one, two, three, optional, counted, each, first_and_each}
+use Rattle.ad_terms.specs.Stacks.{leading_notes, taking}
 use Rattle.ad_build.specs.Reads.{reads, number_of, unless_broken}
 use Rattle.ad_build.proofs.Tops.{begins, begins_tail, no_tail, number_before}
 use Rattle.ad_build.proofs.Numbers.{by_test, number_known}
@@ -29,11 +29,11 @@ pub bare_first : (item : Item) (items : List Item) → is_note item ≡ false �
 bare_first (i.Note note) items h = cc
 bare_first item items h = refl
 
-both-some : {A B : Type 0} (a : Option A) (b : Option B) (x : A) (y : B) → a ≡ Some x → b ≡ Some y → both a b ≡ Some (x, y)
-both-some a b x y e f = ap (λ o. both o b) e ∙ ap (λ o. both (Some x) o) f
+both-some : {A B : Type 0} (a : Option A) (b : Option B) (x : A) (y : B) → a ≡ Some x → b ≡ Some y → option_zip a b ≡ Some (x, y)
+both-some a b x y e f = ap (λ o. option_zip o b) e ∙ ap (λ o. option_zip (Some x) o) f
 
-pub three-some : {A B C : Type 0} (a : Option A) (b : Option B) (c : Option C) (x : A) (y : B) (z : C) → a ≡ Some x → b ≡ Some y → c ≡ Some z → all_three a b c ≡ Some (x, y, z)
-three-some a b c x y z e f g = ap (λ o. all_three o b c) e ∙ ap (λ o. all_three (Some x) o c) f ∙ ap (λ o. all_three (Some x) (Some y) o) g
+pub three-some : {A B C : Type 0} (a : Option A) (b : Option B) (c : Option C) (x : A) (y : B) (z : C) → a ≡ Some x → b ≡ Some y → c ≡ Some z → option_zip a (option_zip b c) ≡ Some (x, (y, z))
+three-some a b c x y z e f g = both-some a (option_zip b c) x (y, z) e (both-some b c y z f g)
 
 at : (words : Words) (items : List Item) (ts us : Text) → ts ≡ us → Gathers words items us → Gathers words items ts
 at words items ts us e g = let P : Text → Type 0 = λ t. Gathers words items t in subst P (sym e) g
@@ -51,7 +51,7 @@ two_arguments words f g x y ts a b e r s = record {
 }
 
 pub three_arguments : (words : Words) {A B C : Type 0} (f : Item → Option A) (g : Item → Option B) (h : Item → Option C) (x : A) (y : B) (z : C) (ts a bc b c : Text)
-    → ts ≡ a ++ bc → bc ≡ b ++ c → ReadsAs words f x a → ReadsAs words g y b → ReadsAs words h z c → Arguments words (three f g h) (x, y, z) ts
+    → ts ≡ a ++ bc → bc ≡ b ++ c → ReadsAs words f x a → ReadsAs words g y b → ReadsAs words h z c → Arguments words (three f g h) (x, (y, z)) ts
 three_arguments words f g h x y z ts a bc b c e e' r s t =
     let behind : Gathers words (s.item ∷ t.item ∷ []) bc = at words _ bc (b ++ c) e' (joined words (s.item ∷ []) (t.item ∷ []) b c (single words s.item b s.phrase) (single words t.item c t.phrase)) in
     record {
@@ -112,7 +112,7 @@ numbered words n items a b (digits, e, numeral, value, small) g starts = record 
 }
 
 pub counted_arguments : (words : Words) {P X : Type 0} (f : Item → Option P) (spells : X → Text → Type 0) (g : Item → Option X) (n : ℕ) (p : P) (x : Option X) → IfSome x (Is words spells g)
-    → (ts a bc b c : Text) → ts ≡ a ++ bc → IsNumber n a → bc ≡ b ++ c → ReadsAs words f p b → Optional spells x c → Arguments words (counted as_number f g) (n, p, x) ts
+    → (ts a bc b c : Text) → ts ≡ a ++ bc → IsNumber n a → bc ≡ b ++ c → ReadsAs words f p b → Optional spells x c → Arguments words (counted as_number f g) (n, (p, x)) ts
 counted_arguments words f spells g n p x all ts a bc b c e number e' r s =
     let last = maybe words spells g x all c s in
     let behind : Gathers words (r.item ∷ last.items) bc = at words _ bc (b ++ c) e' (joined words (r.item ∷ []) last.items b c (single words r.item b r.phrase) last.gathers) in

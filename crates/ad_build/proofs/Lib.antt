@@ -6,6 +6,5 @@ pub mod ClassPhrases
 pub mod AxiomPhrases
 pub mod Uniqueness
 pub mod Numbers
-pub mod Prefixed
 pub mod TextLemmas
-pub mod HeadLemmas
+pub mod Operations

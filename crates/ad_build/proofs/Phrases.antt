@@ -1,6 +1,6 @@
 -- Names, literals, properties, data ranges and class expressions are read as the trees that they spell.
 use Rattle.std.proofs.Common.{◌≡◌, ℕ, false, List, [], ◌∷◌, ◌++◌, Option, None, Some, IfSome, refl, sym, ◌∙◌, ap, subst, append_assoc}
-use Rattle.std.specs.Option.{option_map}
+use Rattle.std.specs.Option.{option_map, option_zip}
 use Rattle.std.specs.List.{AllByRecursion}
 use Rattle.ad_lex.specs.Lexemes.{Lexeme}
 use Rattle.ad_lex.specs.Lexemes as says
@@ -8,9 +8,9 @@ use Rattle.ad_write.specs.Keywords as kw
 use Rattle.ad_grammar.specs.Names.{Words, IsName, IsNumber, SpellsProperty, SpellsIndividual, SpellsLiteral, SpellsFacet, SpellsSubject, SpellsValue, SpellsEntity}
 use Rattle.ad_grammar.specs.Shapes.{Text, Then, Compound, Many0, Many1, Optional}
 use Rattle.ad_grammar.specs.Phrases.{SpellsRange, SpellsClass, Extra, range_step, class_step}
-use Rattle.ad_tree.specs.Entities.{entity}
-use Rattle.ad_tree.specs.declared.entities.Entity.{Entity}
-use Rattle.ad_tree.specs.declared.entities.EntityKind.TheVariants as kinds
+use Rattle.ad_entity.specs.Entities.{entity}
+use Rattle.ad_entity.specs.declared.entities.Entity.{Entity}
+use Rattle.ad_entity.specs.declared.entities.EntityKind.TheVariants as kinds
 use Rattle.ad_tree.specs.declared.names.ObjProp.{ObjProp}
 use Rattle.ad_tree.specs.declared.names.ObjProp.TheVariants as props
 use Rattle.ad_tree.specs.declared.names.Individual.{Individual}
@@ -27,21 +27,22 @@ use Rattle.ad_tree.specs.declared.ranges.Range.TheVariants as r
 use Rattle.ad_tree.specs.declared.classes.Class.{Class}
 use Rattle.ad_tree.specs.declared.classes.Class.TheVariants as c
 use Rattle.ad_tree.proofs.Induction.{RangeCases, range_induction, ClassCases, class_induction}
-use Rattle.ad_build.specs.declared.item.Item.{Item}
-use Rattle.ad_build.specs.declared.item.Item.TheVariants as i
-use Rattle.ad_build.specs.declared.keyword.Keyword.{Keyword}
-use Rattle.ad_build.specs.declared.keyword.Keyword.TheVariants as keyword
-use Rattle.ad_build.specs.declared.keyword.RangeWord.{RangeWord}
-use Rattle.ad_build.specs.declared.keyword.RangeWord.TheVariants as rangeword
-use Rattle.ad_build.specs.declared.keyword.ClassWord.{ClassWord}
-use Rattle.ad_build.specs.declared.keyword.ClassWord.TheVariants as classword
-use Rattle.ad_build.specs.declared.reads_as.Lower.{Lower}
-use Rattle.ad_build.specs.declared.reads_as.Lower.TheVariants as lower
-use Rattle.ad_build.specs.Items.{as_name, as_number, as_property, as_lower, as_individual, as_literal, as_range, as_class, as_entity, as_subject, as_value}
-use Rattle.ad_build.specs.Shapes.{one, two, counted, each, more}
-use Rattle.ad_build.specs.Stacks.{leading_notes}
+use Rattle.ad_terms.specs.declared.item.Item.{Item}
+use Rattle.ad_terms.specs.declared.item.Item.TheVariants as i
+use Rattle.ad_terms.specs.declared.keyword.Keyword.{Keyword}
+use Rattle.ad_terms.specs.declared.keyword.Keyword.TheVariants as keyword
+use Rattle.ad_terms.specs.declared.keyword.RangeWord.{RangeWord}
+use Rattle.ad_terms.specs.declared.keyword.RangeWord.TheVariants as rangeword
+use Rattle.ad_terms.specs.declared.keyword.JoinWord.TheVariants as joinword
+use Rattle.ad_terms.specs.declared.keyword.ClassWord.{ClassWord}
+use Rattle.ad_terms.specs.declared.keyword.ClassWord.TheVariants as classword
+use Rattle.ad_terms.specs.declared.reads_as.Lower.{Lower}
+use Rattle.ad_terms.specs.declared.reads_as.Lower.TheVariants as lower
+use Rattle.ad_terms.specs.Items.{as_name, as_number, as_property, as_lower, as_individual, as_literal, as_range, as_class, as_entity, as_subject, as_value}
+use Rattle.ad_terms.specs.Shapes.{one, two, counted, each, more}
+use Rattle.ad_terms.specs.Stacks.{leading_notes}
 use Rattle.ad_build.specs.Words.{keyword_of}
-use Rattle.ad_build.specs.Built.{range_of, class_of, facet, facets, restriction}
+use Rattle.ad_terms.specs.Built.{range_of, class_of, facet, facets, restriction}
 use Rattle.ad_build.specs.Reads.{reads, built, built_if, put_text, unless_broken}
 use Rattle.ad_build.proofs.Tops.{begins, begins_tail, plain_before}
 use Rattle.ad_build.proofs.Readings.{Reads, ReadsAs, Gathers, Is, is_note, nothing, single, joined, made, name_reads, for_all}
@@ -180,7 +181,7 @@ module _ (words : Words) where
         is = refl;
         other = refl;
         phrase = made words kw.DatatypeRestriction (i.Name datatype ∷ found.items) (i.Range (r.Restriction datatype (x ∷ all))) inner ts (subst P (sym e') both) e
-            (ap (λ o. unless_broken i.Range (option_map (λ fs. r.Restriction datatype fs) o)) found.are) refl;
+            (ap (λ o. unless_broken i.Range (option_map (λ p. r.Restriction p.0 p.1) (option_zip (Some datatype) o))) found.are) refl;
       }
 
   range_cases : RangeCases IsRead
@@ -188,16 +189,16 @@ module _ (words : Words) where
     named = λ datatype ts s. name_as as_range (r.Named datatype) datatype refl ts (as_spelled ts (spells_range-named words datatype) s);
     intersection = λ operands all ts s.
         let h : Compound kw.DataIntersectionOf (Many1 (SpellsRange words) operands) ts = as_spelled ts (spells_range-and words operands) s in
-        range_made kw.DataIntersectionOf rangeword.DataIntersectionOf refl (each as_range) r.And (λ items. refl) operands h.0 ts (each_argument words (SpellsRange words) as_range operands all h.0 h.2) h.1;
+        range_made kw.DataIntersectionOf (rangeword.Join joinword.Intersection) refl (each as_range) r.And (λ items. refl) operands h.0 ts (each_argument words (SpellsRange words) as_range operands all h.0 h.2) h.1;
     union = λ operands all ts s.
         let h : Compound kw.DataUnionOf (Many1 (SpellsRange words) operands) ts = as_spelled ts (spells_range-or words operands) s in
-        range_made kw.DataUnionOf rangeword.DataUnionOf refl (each as_range) r.Or (λ items. refl) operands h.0 ts (each_argument words (SpellsRange words) as_range operands all h.0 h.2) h.1;
+        range_made kw.DataUnionOf (rangeword.Join joinword.Union) refl (each as_range) r.Or (λ items. refl) operands h.0 ts (each_argument words (SpellsRange words) as_range operands all h.0 h.2) h.1;
     complement = λ operand is_read ts s.
         let h : Compound kw.DataComplementOf (SpellsRange words operand) ts = as_spelled ts (spells_range-not words operand) s in
-        range_made kw.DataComplementOf rangeword.DataComplementOf refl (one as_range) r.Not (λ items. refl) operand h.0 ts (one_argument words as_range operand h.0 (is_read h.0 h.2)) h.1;
+        range_made kw.DataComplementOf rangeword.Complement refl (one as_range) r.Not (λ items. refl) operand h.0 ts (one_argument words as_range operand h.0 (is_read h.0 h.2)) h.1;
     one_of = λ values ts s.
         let h : Compound kw.DataOneOf (Many1 (SpellsLiteral words) values) ts = as_spelled ts (spells_range-one_of words values) s in
-        range_made kw.DataOneOf rangeword.DataOneOf refl (each as_literal) r.OneOf (λ items. refl) values h.0 ts (each_argument words (SpellsLiteral words) as_literal values (for_all _ literals_read values) h.0 h.2) h.1;
+        range_made kw.DataOneOf rangeword.OneOf refl (each as_literal) r.OneOf (λ items. refl) values h.0 ts (each_argument words (SpellsLiteral words) as_literal values (for_all _ literals_read values) h.0 h.2) h.1;
     restriction = λ datatype all ts s. restriction_read datatype all ts (as_spelled ts (spells_range-restriction words datatype all) s);
   }
 

@@ -6,10 +6,10 @@ use Rattle.ad_lex.specs.Lexemes.{Lexeme}
 use Rattle.ad_lex.specs.Lexemes as says
 use Rattle.ad_grammar.specs.Names.{Words, names, IsName}
 use Rattle.ad_grammar.specs.Shapes.{Text, Compound, Group, Then, Many0, Many1}
-use Rattle.ad_build.specs.declared.item.Item.{Item}
-use Rattle.ad_build.specs.declared.item.Item.TheVariants as i
-use Rattle.ad_build.specs.Shapes.{more, each}
-use Rattle.ad_build.specs.Stacks.{gather, taking, behind}
+use Rattle.ad_terms.specs.declared.item.Item.{Item}
+use Rattle.ad_terms.specs.declared.item.Item.TheVariants as i
+use Rattle.ad_terms.specs.Shapes.{more, each}
+use Rattle.ad_terms.specs.Stacks.{gather, taking, behind}
 use Rattle.ad_build.specs.Reads.{reads, built, unless_broken}
 use Rattle.ad_build.proofs.Tops.{begins, begins_tail, no_tail}
 

@@ -12,17 +12,17 @@ use Rattle.ad_grammar.specs.Axioms.{SpellsNoted}
 use Rattle.ad_grammar.specs.Texts.{Ontology, SpellsOp, sign_of}
 use Rattle.ad_tree.specs.declared.notes.Annotation.{Annotation}
 use Rattle.ad_tree.specs.declared.axioms.Noted.{Noted}
-use Rattle.ad_tree.specs.declared.entities.Entity.{Entity}
+use Rattle.ad_entity.specs.declared.entities.Entity.{Entity}
 use Rattle.ad_tree.specs.declared.edits.Op.{Op}
 use Rattle.ad_tree.specs.declared.edits.Sign.{Sign}
 use Rattle.ad_tree.specs.declared.edits.Sign.TheVariants as signs
-use Rattle.ad_build.specs.declared.item.Item.{Item}
-use Rattle.ad_build.specs.declared.item.Item.TheVariants as i
-use Rattle.ad_build.specs.Shapes.{more, each}
-use Rattle.ad_build.specs.Items.{as_entity}
-use Rattle.ad_build.specs.Stacks.{gather, leading_notes}
+use Rattle.ad_terms.specs.declared.item.Item.{Item}
+use Rattle.ad_terms.specs.declared.item.Item.TheVariants as i
+use Rattle.ad_terms.specs.Shapes.{more, each}
+use Rattle.ad_terms.specs.Items.{as_entity}
+use Rattle.ad_terms.specs.Stacks.{gather, leading_notes, behind_names}
 use Rattle.ad_build.specs.Reads.{reads, put, put_word, put_text}
-use Rattle.ad_build.specs.Lists.{addition, operations, additions, behind_names}
+use Rattle.ad_build.specs.Lists.{addition, operations, additions}
 use Rattle.ad_build.proofs.Readings.{Reads, Gathers, nothing, single, joined, many, for_all, name_reads}
 use Rattle.ad_build.proofs.Arguments.{notes_off}
 use Rattle.ad_build.proofs.AxiomPhrases.{axioms_read, notes_read, entities_read}

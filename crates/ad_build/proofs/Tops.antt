@@ -5,15 +5,15 @@ use Rattle.ad_lex.specs.Lexemes as says
 use Rattle.ad_grammar.specs.Names.{Words, followed_by}
 use Rattle.ad_grammar.specs.Shapes.{Text}
 use Rattle.ad_tree.specs.declared.literals.Literal.TheVariants as literals
-use Rattle.ad_build.specs.declared.item.Item.{Item}
-use Rattle.ad_build.specs.declared.item.Item.TheVariants as i
-use Rattle.ad_build.specs.declared.keyword.Keyword.{Keyword}
-use Rattle.ad_build.specs.declared.keyword.Keyword.TheVariants as keyword
-use Rattle.ad_build.specs.Items.{as_name, as_property, as_value}
-use Rattle.ad_build.specs.Shapes.{one, two, each}
-use Rattle.ad_build.specs.Stacks.{leading_notes}
+use Rattle.ad_terms.specs.declared.item.Item.{Item}
+use Rattle.ad_terms.specs.declared.item.Item.TheVariants as i
+use Rattle.ad_terms.specs.declared.keyword.Keyword.{Keyword}
+use Rattle.ad_terms.specs.declared.keyword.Keyword.TheVariants as keyword
+use Rattle.ad_terms.specs.Items.{as_name, as_property, as_value}
+use Rattle.ad_terms.specs.Shapes.{one, two, each}
+use Rattle.ad_terms.specs.Stacks.{leading_notes}
 use Rattle.ad_build.specs.Words.{keyword_of}
-use Rattle.ad_build.specs.Built.{range_of, class_of, axiom_of}
+use Rattle.ad_terms.specs.Built.{range_of, class_of, axiom_of}
 use Rattle.ad_build.specs.Reads.{put, put_word, put_text, reads, built, built_if, built_by, noted, unless_broken, number_of}
 
 -- the first token may begin a phrase

@@ -5,10 +5,10 @@ use Rattle.ad_grammar.specs.Names.{Words}
 use Rattle.ad_grammar.specs.Shapes.{Text}
 use Rattle.ad_grammar.specs.Axioms.{SpellsNoted}
 use Rattle.ad_tree.specs.declared.axioms.Noted.{Noted}
-use Rattle.ad_build.specs.declared.item.Item.{Item}
-use Rattle.ad_build.specs.declared.item.Item.TheVariants as i
-use Rattle.ad_build.specs.Items.{as_axiom}
-use Rattle.ad_build.specs.Shapes.{one}
+use Rattle.ad_terms.specs.declared.item.Item.{Item}
+use Rattle.ad_terms.specs.declared.item.Item.TheVariants as i
+use Rattle.ad_terms.specs.Items.{as_axiom}
+use Rattle.ad_terms.specs.Shapes.{one}
 use Rattle.ad_build.specs.Reads.{reads}
 use Rattle.ad_build.proofs.Readings.{Is, ReadsAs}
 use Rattle.ad_build.proofs.AxiomPhrases.{axioms_read}

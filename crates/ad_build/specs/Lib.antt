@@ -1,10 +1,3 @@
-pub mod Items
-pub mod Shapes
-pub mod Stacks
 pub mod Words
-pub mod Built
 pub mod Reads
-pub mod Declarations
 pub mod Lists
-pub mod Heads
-pub mod Phrased

@@ -8,21 +8,21 @@ use Rattle.ad_lex.specs.Lexemes.{Lexeme}
 use Rattle.ad_lex.specs.Lexemes as says
 use Rattle.ad_grammar.specs.Names.{Words, followed_by}
 use Rattle.ad_grammar.specs.Shapes.{Text}
-use Rattle.ad_tree.specs.Entities.{entity}
+use Rattle.ad_entity.specs.Entities.{entity}
 use Rattle.ad_tree.specs.declared.edits.Sign.TheVariants as signs
 use Rattle.ad_tree.specs.declared.literals.Literal.TheVariants as literals
 use Rattle.ad_tree.specs.declared.notes.Annotation.{Annotation}
 use Rattle.ad_tree.specs.declared.notes.Annotation.TheViews.{roll-Annotation}
 use Rattle.ad_tree.specs.declared.axioms.Axiom.{Axiom}
-use Rattle.ad_build.specs.declared.item.Item.{Item}
-use Rattle.ad_build.specs.declared.item.Item.TheVariants as i
-use Rattle.ad_build.specs.declared.keyword.Keyword.{Keyword}
-use Rattle.ad_build.specs.declared.keyword.Keyword.TheVariants as keyword
-use Rattle.ad_build.specs.Items.{as_name, as_property, as_value}
-use Rattle.ad_build.specs.Shapes.{one, two, each}
-use Rattle.ad_build.specs.Stacks.{gather, leading_notes}
+use Rattle.ad_terms.specs.declared.item.Item.{Item}
+use Rattle.ad_terms.specs.declared.item.Item.TheVariants as i
+use Rattle.ad_terms.specs.declared.keyword.Keyword.{Keyword}
+use Rattle.ad_terms.specs.declared.keyword.Keyword.TheVariants as keyword
+use Rattle.ad_terms.specs.Items.{as_name, as_property, as_value}
+use Rattle.ad_terms.specs.Shapes.{one, two, each}
+use Rattle.ad_terms.specs.Stacks.{gather, leading_notes}
 use Rattle.ad_build.specs.Words.{keyword_of}
-use Rattle.ad_build.specs.Built.{range_of, class_of, axiom_of}
+use Rattle.ad_terms.specs.Built.{range_of, class_of, axiom_of}
 
 -- no item where nothing was made
 abbrev pub unless_broken : {A : Type 0} → (A → Item) → Option A → Item

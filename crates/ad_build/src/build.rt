@@ -11,13 +11,13 @@ ghost use Rattle.ad_tree.specs.declared.literals.Literal.{Literal};
 ghost use Rattle.ad_tree.specs.declared.ranges.Range.{Range};
 ghost use Rattle.ad_tree.specs.declared.classes.Class.{Class};
 ghost use Rattle.ad_tree.specs.declared.axioms.Noted.{Noted};
-ghost use Rattle.ad_build.specs.Declarations.{declarations};
+ghost use Rattle.ad_prefixes.specs.Declarations.{declarations};
 
-use crate::prefixes::Prefixes;
 use crate::reads::reads;
-use crate::shapes::one;
 use ad_base::Memory;
 use ad_lex::Token;
+use ad_prefixes::Prefixes;
+use ad_terms::one;
 use ad_tree::{Class, Individual, Literal, Noted, ObjProp, Range};
 use std::alloc::Global;
 
@@ -34,8 +34,7 @@ pub fn build_class(
     ensures { IfOk result (λ found. (x : Class) → SpellsClass false (in_force (declarations prefixes.now)) x (lexemes text.now (drop from tokens.now)) → found ≡ Some x) }
 {
     let items = reads(alloc, text, tokens, from, prefixes)?;
-    let found = one(alloc, items)?;
-    Ok(found)
+    Ok(one(items))
 }
 
 /// The data range that the tokens from this one on spell, if they spell one.
@@ -51,8 +50,7 @@ pub fn build_range(
     ensures { IfOk result (λ found. (x : Range) → SpellsRange (in_force (declarations prefixes.now)) x (lexemes text.now (drop from tokens.now)) → found ≡ Some x) }
 {
     let items = reads(alloc, text, tokens, from, prefixes)?;
-    let found = one(alloc, items)?;
-    Ok(found)
+    Ok(one(items))
 }
 
 /// The object property that the tokens from this one on spell, if they spell one.
@@ -68,8 +66,7 @@ pub fn build_objprop(
     ensures { IfOk result (λ found. (x : ObjProp) → SpellsProperty (in_force (declarations prefixes.now)) x (lexemes text.now (drop from tokens.now)) → found ≡ Some x) }
 {
     let items = reads(alloc, text, tokens, from, prefixes)?;
-    let found = one(alloc, items)?;
-    Ok(found)
+    Ok(one(items))
 }
 
 /// The individual that the tokens from this one on spell, if they spell one.
@@ -85,8 +82,7 @@ pub fn build_individual(
     ensures { IfOk result (λ found. (x : Individual) → SpellsIndividual (in_force (declarations prefixes.now)) x (lexemes text.now (drop from tokens.now)) → found ≡ Some x) }
 {
     let items = reads(alloc, text, tokens, from, prefixes)?;
-    let found = one(alloc, items)?;
-    Ok(found)
+    Ok(one(items))
 }
 
 /// The literal that the tokens from this one on spell, if they spell one.
@@ -102,8 +98,7 @@ pub fn build_literal(
     ensures { IfOk result (λ found. (x : Literal) → SpellsLiteral (in_force (declarations prefixes.now)) x (lexemes text.now (drop from tokens.now)) → found ≡ Some x) }
 {
     let items = reads(alloc, text, tokens, from, prefixes)?;
-    let found = one(alloc, items)?;
-    Ok(found)
+    Ok(one(items))
 }
 
 /// The axiom with its annotations that the tokens from this one on spell, if they spell one.
@@ -119,6 +114,5 @@ pub fn build_axiom(
     ensures { IfOk result (λ found. (x : Noted) → SpellsNoted false (in_force (declarations prefixes.now)) x (lexemes text.now (drop from tokens.now)) → found ≡ Some x) }
 {
     let items = reads(alloc, text, tokens, from, prefixes)?;
-    let found = one(alloc, items)?;
-    Ok(found)
+    Ok(one(items))
 }

@@ -7,7 +7,7 @@ ghost use Rattle.ad_grammar.specs.Names.{Words, SpellsProperty, SpellsIndividual
 ghost use Rattle.ad_grammar.specs.Phrases.{SpellsRange, SpellsClass};
 ghost use Rattle.ad_grammar.specs.Axioms.{SpellsNoted};
 ghost use Rattle.ad_grammar.specs.Texts.{Declared, SpellsDeclared};
-ghost use Rattle.ad_build.specs.Heads.{heads};
+ghost use Rattle.ad_prefixes.specs.Heads.{heads};
 ghost use Rattle.ad_tree.specs.declared.names.ObjProp.{ObjProp};
 ghost use Rattle.ad_tree.specs.declared.names.Individual.{Individual};
 ghost use Rattle.ad_tree.specs.declared.literals.Literal.{Literal};

@@ -1,23 +1,20 @@
-ghost use Rattle.std.specs.Prelude.{◌≡◌, ◌↔◌, ◌≤◌, length, drop, ◌∷◌, ◌++◌, IfOk, OnOk, IsTrue, EachIndex, slice_index};
-ghost use Rattle.std.specs.Char.{IsAsciiDigit};
+ghost use Rattle.std.specs.Prelude.{◌≡◌, ◌≤◌, length, drop, ◌∷◌, IfOk, OnOk};
 ghost use Rattle.ad_lex.specs.Lexemes.{lexeme, lexemes};
 ghost use Rattle.ad_lex.specs.Spans.{IsTokenOf, AreTokensOf};
 ghost use Rattle.ad_grammar.specs.Texts.{in_force};
-ghost use Rattle.ad_build.specs.Declarations.{declarations};
-ghost use Rattle.ad_build.specs.declared.item.Item.TheVariants as i;
-ghost use Rattle.ad_build.specs.declared.keyword.Keyword.TheVariants as keyword;
+ghost use Rattle.ad_prefixes.specs.Declarations.{declarations};
+ghost use Rattle.ad_terms.specs.declared.item.Item.TheVariants as i;
+ghost use Rattle.ad_terms.specs.declared.keyword.Keyword.TheVariants as keyword;
 ghost use Rattle.ad_build.specs.Reads.{put, put_text, put_word, named, built, built_by, unless_broken, number_of, reads};
 
-use crate::axioms::axiom_of;
-use crate::classes::class_of;
-use crate::item::Item;
-use crate::keyword::{AxiomWord, ClassWord, Keyword, RangeWord, keyword_of};
-use crate::prefixes::Prefixes;
-use crate::ranges::range_of;
-use crate::shapes::{each, one, two};
-use crate::stack::Stack;
-use ad_base::{Memory, Word};
+use crate::words::keyword_of;
+use ad_base::{Memory, Word, are_digits};
 use ad_lex::{Mark, Token};
+use ad_prefixes::Prefixes;
+use ad_terms::{
+    AxiomWord, ClassWord, Item, Keyword, RangeWord, Stack, axiom_of, class_of, each, one, range_of,
+    two,
+};
 use ad_tree::{Annotation, Entity, EntityKind, Literal, Noted, Sign, Value};
 use std::alloc::Global;
 
@@ -77,22 +74,10 @@ fn put(
 fn named(alloc: Global, prefix: &str, local: &str, prefixes: &Prefixes) -> Result<Item, Memory>
     ensures { IfOk result (λ item. item ≡ named local.now (in_force (declarations prefixes.now) prefix.now)) }
 {
-    match prefixes.get(prefix) {
-        Some(iri) => {
-            let name = joined(alloc, iri.as_str(), local)?;
-            Ok(Item::Name(name))
-        }
+    match prefixes.name(alloc, prefix, local)? {
+        Some(name) => Ok(Item::Name(name)),
         None => Ok(Item::Broken),
     }
-}
-
-/// An IRI with a local part behind it.
-fn joined(alloc: Global, iri: &str, local: &str) -> Result<Word, Memory>
-    ensures { IfOk result (λ name. name ≡ iri.now ++ local.now) }
-{
-    let mut name = String::from_str(alloc, iri)?;
-    name.push_str(local)?;
-    Word::of(alloc, name.as_str())
 }
 
 /// Puts a string with what may stand behind it.
@@ -166,13 +151,6 @@ fn number_of(word: &str) -> Option<u32>
     }
 }
 
-/// Whether there are only digits.
-fn are_digits(word: &[u8]) -> bool
-    ensures { IsTrue result ↔ EachIndex word.now (λ i. IsAsciiDigit (slice_index word.now i)) }
-{
-    word.iter().all(|byte| byte.is_ascii_digit())
-}
-
 /// What a keyword and its arguments stand for.
 fn built(alloc: Global, word: &str, arguments: Stack) -> Result<Item, Memory>
     ensures { IfOk result (λ item. item ≡ built word.now arguments) }
@@ -188,9 +166,9 @@ fn built_by(alloc: Global, keyword: Keyword, arguments: Stack) -> Result<Item, M
 {
     match keyword {
         Keyword::Annotation => annotated(alloc, arguments),
-        Keyword::Inverse => inverse(alloc, arguments),
+        Keyword::Inverse => Ok(inverse(arguments)),
         Keyword::Chain => chain(alloc, arguments),
-        Keyword::Entity(kind) => declared(alloc, kind, arguments),
+        Keyword::Entity(kind) => Ok(declared(kind, arguments)),
         Keyword::Range(word) => range(alloc, word, arguments),
         Keyword::Class(word) => class(alloc, word, arguments),
         Keyword::Axiom(word) => stated(alloc, word, arguments),
@@ -198,12 +176,12 @@ fn built_by(alloc: Global, keyword: Keyword, arguments: Stack) -> Result<Item, M
 }
 
 /// The inverse of a property.
-fn inverse(alloc: Global, arguments: Stack) -> Result<Item, Memory>
-    ensures { IfOk result (λ item. item ≡ built_by keyword.Inverse arguments) }
+fn inverse(arguments: Stack) -> Item
+    ensures { result ≡ built_by keyword.Inverse arguments }
 {
-    match one(alloc, arguments)? {
-        Some(made) => Ok(Item::Inverse(made)),
-        None => Ok(Item::Broken),
+    match one(arguments) {
+        Some(made) => Item::Inverse(made),
+        None => Item::Broken,
     }
 }
 
@@ -238,12 +216,12 @@ fn class(alloc: Global, word: ClassWord, arguments: Stack) -> Result<Item, Memor
 }
 
 /// An entity of this kind.
-fn declared(alloc: Global, kind: EntityKind, arguments: Stack) -> Result<Item, Memory>
-    ensures { IfOk result (λ item. item ≡ built_by (keyword.Entity kind) arguments) }
+fn declared(kind: EntityKind, arguments: Stack) -> Item
+    ensures { result ≡ built_by (keyword.Entity kind) arguments }
 {
-    match one(alloc, arguments)? {
-        Some(name) => Ok(Item::Entity(Entity { kind, name })),
-        None => Ok(Item::Broken),
+    match one(arguments) {
+        Some(name) => Item::Entity(Entity { kind, name }),
+        None => Item::Broken,
     }
 }
 
@@ -252,7 +230,7 @@ fn annotated(alloc: Global, mut arguments: Stack) -> Result<Item, Memory>
     ensures { IfOk result (λ item. item ≡ built_by keyword.Annotation arguments) }
 {
     let notes = arguments.notes(alloc)?;
-    let parts: Option<(Word, Value)> = two(alloc, arguments)?;
+    let parts: Option<(Word, Value)> = two(arguments);
     match parts {
         Some((property, value)) => Ok(Item::Note(Annotation {
             notes,

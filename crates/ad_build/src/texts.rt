@@ -1,27 +1,24 @@
-ghost use Rattle.std.specs.Prelude.{◌≡◌, ◌+◌, ◌≤◌, ◌<◌, ◌^◌, [], length, drop, map, false, find, Some, List, IfOk};
-ghost use Rattle.std.specs.Option.{option_map};
-ghost use Rattle.ad_lex.specs.Lexemes.{lexeme, lexemes};
-ghost use Rattle.ad_lex.specs.Spans.{AreTokensOf, IsTokenOf};
+ghost use Rattle.std.specs.Prelude.{◌≡◌, ◌+◌, ◌≤◌, ◌<◌, ◌^◌, [], length, drop, map, false, Some, List, IfOk};
+ghost use Rattle.ad_lex.specs.Lexemes.{lexemes};
+ghost use Rattle.ad_lex.specs.Spans.{AreTokensOf};
 ghost use Rattle.ad_grammar.specs.Shapes.{Many0};
 ghost use Rattle.ad_grammar.specs.Names.{SpellsEntity};
 ghost use Rattle.ad_grammar.specs.Axioms.{SpellsNoted};
 ghost use Rattle.ad_grammar.specs.Texts.{in_force, Ontology, SpellsOp};
 ghost use Rattle.ad_tree.specs.declared.axioms.Noted.{Noted};
 ghost use Rattle.ad_tree.specs.declared.edits.Op.{Op};
-ghost use Rattle.ad_tree.specs.declared.entities.Entity.{Entity};
-ghost use Rattle.ad_build.specs.Declarations.{declarations};
-ghost use Rattle.ad_build.specs.Items.{as_entity};
-ghost use Rattle.ad_build.specs.Shapes.{each};
-ghost use Rattle.ad_build.specs.Stacks.{leading_notes};
-ghost use Rattle.ad_build.specs.Lists.{addition, operation, operations, additions, behind_names, is_unknown};
+ghost use Rattle.ad_entity.specs.declared.entities.Entity.{Entity};
+ghost use Rattle.ad_prefixes.specs.Declarations.{declarations};
+ghost use Rattle.ad_terms.specs.Items.{as_entity};
+ghost use Rattle.ad_terms.specs.Shapes.{behind_top, each};
+ghost use Rattle.ad_terms.specs.Stacks.{leading_notes, behind_names};
+ghost use Rattle.ad_build.specs.Lists.{addition, operation, operations, additions};
 
-use crate::item::Item;
-use crate::prefixes::Prefixes;
 use crate::reads::reads;
-use crate::reads_as::ReadsAs;
-use crate::stack::Stack;
 use ad_base::Memory;
-use ad_lex::{Mark, Token};
+use ad_lex::Token;
+use ad_prefixes::Prefixes;
+use ad_terms::{Item, ReadsAs, Stack, next_two};
 use ad_tree::{Batch, Entity, Noted, Op, Seed, Sign};
 use std::alloc::Global;
 
@@ -82,46 +79,14 @@ pub fn build_entities(
     Ok(found)
 }
 
-/// Where the first of the tokens from this one on stands that is a name whose prefix is neither declared nor
-/// standard.
-pub fn first_unknown(text: &[u8], tokens: &[Token], from: usize, prefixes: &Prefixes) -> Option<u32>
-    requires place { AreTokensOf text.now tokens.now }
-    requires within { from ≤ length tokens.now }
-    ensures { result ≡ option_map (λ token. token.from) (find (λ token. is_unknown (in_force (declarations prefixes.now)) (lexeme text.now token)) (drop from tokens.now)) }
-{
-    let mut at = from;
-    'tokens: while at < tokens.len() {
-        let token = tokens[at];
-        if is_unknown(text, token, prefixes) {
-            return Some(token.from);
-        }
-        at += 1;
-    }
-    None
-}
-
-/// Whether a token is a name whose prefix isn't known.
-fn is_unknown(text: &[u8], token: Token, prefixes: &Prefixes) -> bool
-    requires { IsTokenOf text.now token }
-    ensures { result ≡ is_unknown (in_force (declarations prefixes.now)) (lexeme text.now token) }
-{
-    match token.mark {
-        Mark::Short => {
-            let (prefix, _local) = token.short(text);
-            prefixes.get(prefix).is_none()
-        }
-        _ => false,
-    }
-}
-
 /// The operations that these items are.
 fn operations(alloc: Global, mut items: Stack) -> Result<Option<Batch>, Memory>
     requires { length items < 2 ^ 32 }
     ensures { IfOk result (λ found. found ≡ operations items) }
 {
     let mut batch = Batch::new(alloc);
-    'operations: while let Some(sign) = items.pop() {
-        match operation(sign, items.pop()) {
+    'operations: while !items.is_empty() {
+        match operation(&mut items) {
             Some(op) => batch.push(op)?,
             None => return Ok(None),
         }
@@ -129,14 +94,13 @@ fn operations(alloc: Global, mut items: Stack) -> Result<Option<Batch>, Memory>
     Ok(Some(batch))
 }
 
-/// The operation of a sign and the axiom behind it.
-fn operation(sign: Item, stated: Option<Item>) -> Option<Op>
-    ensures { result ≡ operation sign stated }
+/// Takes the operation of a sign and the axiom behind it.
+fn operation(items: &mut Stack) -> Option<Op>
+    ensures found { result ≡ operation items.old }
+    ensures behind { items.new ≡ behind_top (behind_top items.old) }
 {
-    match (sign, stated) {
-        (Item::Signed(sign), Some(Item::Axiom(noted))) => Some(Op { sign, noted }),
-        _ => None,
-    }
+    let found: Option<(Sign, Noted)> = next_two(items);
+    found.map(|(sign, noted)| Op { sign, noted })
 }
 
 /// The axioms of an ontology, behind its names and its annotations.
@@ -181,7 +145,7 @@ fn entities(alloc: Global, mut items: Stack) -> Result<Option<Seed>, Memory>
 {
     let mut seed = Seed::new(alloc);
     'entities: while let Some(item) = items.pop() {
-        match Entity::read(alloc, item)? {
+        match Entity::read(item) {
             Some(entity) => seed.push(entity)?,
             None => return Ok(None),
         }

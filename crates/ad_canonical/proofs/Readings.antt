@@ -1,5 +1,5 @@
 -- What is written is read back, and as nothing else.
-use Rattle.std.proofs.Common.{◌≡◌, ℕ, false, List, [], ◌∷◌, ◌++◌, map, Option, None, Some, drop, flat_map, codes, IsUtf8, refl, sym, ◌∙◌, ap, subst, append_assoc, arith}
+use Rattle.std.proofs.Common.{◌≡◌, ℕ, false, List, [], ◌∷◌, ◌++◌, map, Option, None, Some, drop, flat_map, IsUtf8, refl, sym, ◌∙◌, ap, subst, append_assoc, arith}
 use Rattle.std.specs.Prelude.{IsTrue}
 use Rattle.std.specs.List.{AllByRecursion}
 use Rattle.std.proofs.lemmas.List.{append-nil, append_cancel_left}
@@ -16,14 +16,14 @@ use Rattle.ad_lex.proofs.Sayings.{says_lexed}
 use Rattle.ad_lex.proofs.Writing.{end_says}
 use Rattle.ad_write.specs.Keywords as kw
 use Rattle.ad_write.specs.Canonical.{canon, canon_line, canon_document, document_head, document_foot}
-use Rattle.ad_tree.specs.Signature.{is_logical}
+use Rattle.ad_tree.specs.Logical.{is_logical}
 use Rattle.ad_tree.specs.declared.axioms.Noted.{Noted}
 use Rattle.ad_tree.specs.declared.edits.Op.{Op}
 use Rattle.ad_grammar.specs.Shapes.{Text, Many0}
 use Rattle.ad_grammar.specs.Names.{Words}
 use Rattle.ad_grammar.specs.Axioms.{SpellsNoted}
 use Rattle.ad_grammar.specs.Texts.{Declared, in_force, Ontology, Behind, SpellsDocument, SpellsSingle}
-use Rattle.ad_build.specs.Items.{as_axiom}
+use Rattle.ad_terms.specs.Items.{as_axiom}
 use Rattle.ad_build.specs.Lists.{addition}
 use Rattle.ad_build.proofs.Uniqueness.{once, noteds_read}
 use Rattle.ad_build.proofs.TextLemmas.{stated_read}
@@ -177,11 +177,11 @@ first : Text → Option Lexeme
 first [] = None
 first (l ∷ ls) = Some l
 
-declares_first : (d : Declared) (ds : List Declared) (body : Text → Type 0) (ts : Text) → Behind (d ∷ ds) body ts → first ts ≡ Some (says.Plain (codes "Prefix"))
+declares_first : (d : Declared) (ds : List Declared) (body : Text → Type 0) (ts : Text) → Behind (d ∷ ds) body ts → first ts ≡ Some (says.Plain kw.Prefix)
 unfolding first
 declares_first d ds body ts (a, b, e, (x, y, f, s, ss), h) = ap first e ∙ ap (λ t. first (t ++ b)) f ∙ ap (λ t. first ((t ++ y) ++ b)) s
 
-other_word : Some (says.Plain kw.Ontology) ≡ Some (says.Plain (codes "Prefix")) → ⊥
+other_word : Some (says.Plain kw.Ontology) ≡ Some (says.Plain kw.Prefix) → ⊥
 other_word e = cc
 
 document_first : {all : List Noted} (u : Lines all) → first (document_tokens u) ≡ Some (says.Plain kw.Ontology)

@@ -4,7 +4,7 @@ use Rattle.std.specs.List.{AllByRecursion}
 use Rattle.ad_lex.specs.Lexemes as says
 use Rattle.ad_write.specs.Keywords as kw
 use Rattle.ad_write.specs.Canonical.{kind_word}
-use Rattle.ad_tree.specs.declared.entities.Entity.{Entity}
+use Rattle.ad_entity.specs.declared.entities.Entity.{Entity}
 use Rattle.ad_tree.specs.declared.names.ObjProp.{ObjProp}
 use Rattle.ad_tree.specs.declared.names.ObjProp.TheVariants as props
 use Rattle.ad_tree.specs.declared.names.Individual.{Individual}

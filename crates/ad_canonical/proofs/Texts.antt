@@ -12,7 +12,7 @@ use Rattle.ad_lex.specs.Lexed.{IsLexed}
 use Rattle.ad_lex.specs.Lexemes.{Lexeme, lexemes}
 use Rattle.ad_lex.specs.Lexemes as says
 use Rattle.ad_write.specs.Keywords as kw
-use Rattle.ad_tree.specs.declared.entities.Entity.{Entity}
+use Rattle.ad_entity.specs.declared.entities.Entity.{Entity}
 use Rattle.ad_tree.specs.declared.axioms.Noted.{Noted}
 use Rattle.ad_tree.specs.declared.edits.Op.{Op}
 use Rattle.ad_grammar.specs.Shapes.{Text, Then, Many0}
@@ -69,7 +69,7 @@ with_standard (d ∷ declared) h = (h.0, with_standard declared h.1)
 
 declared_iri : (d : Declared) → Gives (SpellsDeclared d) (SpellableIri d.iri)
 declared_iri d ts s e =
-    let here : AreSound (says.Plain (codes "Prefix") ∷ says.Left ∷ says.Short d.prefix [] ∷ says.Equals ∷ says.Iri d.iri ∷ says.Right ∷ []) = subst AreSound e s in
+    let here : AreSound (says.Plain kw.Prefix ∷ says.Left ∷ says.Short d.prefix [] ∷ says.Equals ∷ says.Iri d.iri ∷ says.Right ∷ []) = subst AreSound e s in
     here.1.1.1.1.0
 
 -- behind its prefix declarations

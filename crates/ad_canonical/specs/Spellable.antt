@@ -4,7 +4,7 @@ use Rattle.std.specs.Prelude.{ℕ, ◌<◌, ◌≤◌, List, [], ◌∷◌, leng
 use Rattle.std.specs.List.{AllPass, AllByRecursion}
 use Rattle.std.specs.Str.{IsUtf8}
 use Rattle.ad_lex.specs.Characters.{is_word, is_iri}
-use Rattle.ad_tree.specs.declared.entities.Entity.{Entity}
+use Rattle.ad_entity.specs.declared.entities.Entity.{Entity}
 use Rattle.ad_tree.specs.declared.names.ObjProp.{ObjProp}
 use Rattle.ad_tree.specs.declared.names.ObjProp.TheVariants as props
 use Rattle.ad_tree.specs.declared.names.Individual.{Individual}

@@ -9,7 +9,7 @@ use Rattle.ad_lex.specs.Lexemes.{lexeme, lexemes}
 use Rattle.ad_lex.specs.declared.token.Token.{Token}
 use Rattle.ad_grammar.specs.Shapes.{Text}
 use Rattle.ad_grammar.specs.Faults.{Form, IsOf, Begins, IsFirstFault, IsWide, IsLongest, IsNoPhrase, Tells}
-use Rattle.ad_check.specs.declared.items.Item.{Item}
+use Rattle.ad_check.specs.declared.items.Symbol.{Symbol}
 use Rattle.ad_check.specs.declared.items.Halt.{Halt}
 use Rattle.ad_check.specs.declared.texts.Stop.{Stop}
 use Rattle.ad_check.specs.declared.texts.Unsupported.{Unsupported}
@@ -30,7 +30,7 @@ pub record Bounds (ts : Text) (at : ℕ) (stop : Halt) : Type 0 where
 more_tokens : (n m k : ℕ) → k < n + 1 + m → k < n + suc m
 more_tokens n m k h = omega (arith, h)
 
-pub bounds : (ts : Text) (items : List Item) (at : ℕ) (stop : Halt) → fault at items ts ≡ Some stop → Bounds ts at stop
+pub bounds : (ts : Text) (items : List Symbol) (at : ℕ) (stop : Halt) → fault at items ts ≡ Some stop → Bounds ts at stop
 bounds [] items at stop h = by_end (ends items) h
   where
     by_end : (b : Bool) → (if b then None else Some (halt at false)) ≡ Some stop → Bounds [] at stop
@@ -38,7 +38,7 @@ bounds [] items at stop h = by_end (ends items) h
     by_end false h' = subst (Bounds [] at) (halt_is (halt at false) stop h') (record { above = omega arith; within = omega arith; token = λ e. absurd (true≢false (sym e)) })
 bounds (t ∷ ts) items at stop h = by_step (step false items t) h (bounds ts)
   where
-    by_step : (o : Option (List Item)) → go_on (λ next. fault (at + 1) next ts) (halt at (is_some (step true items t))) o ≡ Some stop → ((next : List Item) (at' : ℕ) (stop' : Halt) → fault at' next ts ≡ Some stop' → Bounds ts at' stop') → Bounds (t ∷ ts) at stop
+    by_step : (o : Option (List Symbol)) → go_on (λ next. fault (at + 1) next ts) (halt at (is_some (step true items t))) o ≡ Some stop → ((next : List Symbol) (at' : ℕ) (stop' : Halt) → fault at' next ts ≡ Some stop' → Bounds ts at' stop') → Bounds (t ∷ ts) at stop
     by_step None h' later = subst (Bounds (t ∷ ts) at) (halt_is (halt at (is_some (step true items t))) stop h') (record { above = omega arith; within = omega arith; token = λ e. omega arith })
     by_step (Some next) h' later =
         let q = later next (at + 1) stop h' in
@@ -52,7 +52,7 @@ moved d (Some stop) = Some (halt (d + stop.token) stop.wide)
 plus_one : (n m : ℕ) → n + m + 1 ≡ n + (m + 1)
 plus_one n m = omega arith
 
-fault_moved : (ts : Text) (items : List Item) (d at : ℕ) → fault (d + at) items ts ≡ moved d (fault at items ts)
+fault_moved : (ts : Text) (items : List Symbol) (d at : ℕ) → fault (d + at) items ts ≡ moved d (fault at items ts)
 unfolding moved
 fault_moved [] items d at = by_end (ends items)
   where
@@ -61,7 +61,7 @@ fault_moved [] items d at = by_end (ends items)
     by_end false = refl
 fault_moved (t ∷ ts) items d at = by_step (step false items t) (λ next. fault_moved ts next d (at + 1))
   where
-    by_step : (o : Option (List Item)) → ((next : List Item) → fault (d + (at + 1)) next ts ≡ moved d (fault (at + 1) next ts)) → go_on (λ next. fault (d + at + 1) next ts) (halt (d + at) (is_some (step true items t))) o ≡ moved d (go_on (λ next. fault (at + 1) next ts) (halt at (is_some (step true items t))) o)
+    by_step : (o : Option (List Symbol)) → ((next : List Symbol) → fault (d + (at + 1)) next ts ≡ moved d (fault (at + 1) next ts)) → go_on (λ next. fault (d + at + 1) next ts) (halt (d + at) (is_some (step true items t))) o ≡ moved d (go_on (λ next. fault (at + 1) next ts) (halt at (is_some (step true items t))) o)
     by_step None later = refl
     by_step (Some next) later = ap (λ n. fault n next ts) (plus_one d at) ∙ later next
 
@@ -76,7 +76,7 @@ plus_nothing : (n : ℕ) → n + 0 ≡ n
 plus_nothing n = omega arith
 
 -- a reading of what stands from a token on, as one from the beginning
-pub first_of_rest : (ts : Text) (items : List Item) (from : ℕ) (stop : Halt) → fault from items ts ≡ Some stop → (first : Halt) × (fault 0 items ts ≡ Some first) × (stop.token ≡ from + first.token) × (stop.wide ≡ first.wide)
+pub first_of_rest : (ts : Text) (items : List Symbol) (from : ℕ) (stop : Halt) → fault from items ts ≡ Some stop → (first : Halt) × (fault 0 items ts ≡ Some first) × (stop.token ≡ from + first.token) × (stop.wide ≡ first.wide)
 first_of_rest ts items from stop h = moved_back from (fault 0 items ts) stop (sym (fault_moved ts items from 0) ∙ ap (λ n. fault n items ts) (plus_nothing from) ∙ h)
 
 -- what the stop of a form says
@@ -84,7 +84,7 @@ says : (form : Form) (ts : Text) (stop : Halt) (what : Option Unsupported) → f
 says form ts stop None h e = subst (λ b. Tells b (IsWide form ts stop.token)) e (wide_fault form ts stop h)
 says form ts stop (Some what) h (e, is) = (subst (λ b. Tells b (IsWide form ts stop.token)) e (wide_fault form ts stop h), is)
 
-pub halts_whole : (ts : Text) (items : List Item) (from : ℕ) (stop : Halt) → Halts ts items from stop → fault from items (drop from ts) ≡ Some stop
+pub halts_whole : (ts : Text) (items : List Symbol) (from : ℕ) (stop : Halt) → Halts ts items from stop → fault from items (drop from ts) ≡ Some stop
 halts_whole ts items from stop h = ap (λ is. fault from is (drop from ts)) (sym (append-nil items)) ∙ h []
 
 -- a text that is read up to a place, and no further
@@ -92,7 +92,7 @@ over_rest : (at : ℕ) (rest : Text) → rest ≢ [] → fault at [] rest ≡ So
 over_rest at [] some = absurd (some refl)
 over_rest at (t ∷ rest) some = refl
 
-pub passes_whole : (ts : Text) (items : List Item) (from to : ℕ) → Passes ts items from to → fault from items (drop from ts) ≡ fault to [] (drop to ts)
+pub passes_whole : (ts : Text) (items : List Symbol) (from to : ℕ) → Passes ts items from to → fault from items (drop from ts) ≡ fault to [] (drop to ts)
 passes_whole ts items from to p = ap (λ is. fault from is (drop from ts)) (sym (append-nil items)) ∙ subst (λ us. fault from (items ++ []) (drop from us) ≡ fault to [] (drop to us)) (take-length ts) (p.reads (length ts) [] p.within (omega arith))
 
 drop_over : (ts : Text) (n : ℕ) → n ≡ length ts → drop n ts ≡ []
@@ -104,17 +104,17 @@ drop_some ts n below e = positive (length ts) n below (sym (length-drop n ts) �
     positive : (k m : ℕ) → m < k → k - m ≡ 0 → ⊥
     positive k m below' e' = omega (arith, below', e')
 
-pub whole_over : (ts : Text) (items : List Item) (to : ℕ) → Passes ts items 0 to → to ≡ length ts → fault 0 items ts ≡ None
+pub whole_over : (ts : Text) (items : List Symbol) (to : ℕ) → Passes ts items 0 to → to ≡ length ts → fault 0 items ts ≡ None
 whole_over ts items to p e = passes_whole ts items 0 to p ∙ ap (fault to []) (drop_over ts to e)
 
-pub whole_part : (ts : Text) (items : List Item) (to : ℕ) → Passes ts items 0 to → to < length ts → fault 0 items ts ≡ Some (halt to false)
+pub whole_part : (ts : Text) (items : List Symbol) (to : ℕ) → Passes ts items 0 to → to < length ts → fault 0 items ts ≡ Some (halt to false)
 whole_part ts items to p below = passes_whole ts items 0 to p ∙ over_rest to (drop to ts) (drop_some ts to below)
 
 -- a whole text
-pub checks_ok : (form : Form) (ts : Text) (items : List Item) → items ≡ start form → fault 0 items ts ≡ None → IsOf false form ts
+pub checks_ok : (form : Form) (ts : Text) (items : List Symbol) → items ≡ start form → fault 0 items ts ≡ None → IsOf false form ts
 checks_ok form ts items e h = whole_is form ts (ap (λ is. fault 0 is ts) (sym e) ∙ h)
 
-pub checks_err : (form : Form) (ts : Text) (items : List Item) (stop : Halt) (answer : Stop) → items ≡ start form → fault 0 items ts ≡ Some stop → answer.token ≡ stop.token → Names ts stop answer.what → IsFirstFault form ts answer.token × Says form ts answer.token answer.what
+pub checks_err : (form : Form) (ts : Text) (items : List Symbol) (stop : Halt) (answer : Stop) → items ≡ start form → fault 0 items ts ≡ Some stop → answer.token ≡ stop.token → Names ts stop answer.what → IsFirstFault form ts answer.token × Says form ts answer.token answer.what
 checks_err form ts items stop answer e h token what =
     let h' : fault 0 (start form) ts ≡ Some stop = ap (λ is. fault 0 is ts) (sym e) ∙ h in
     (subst (IsFirstFault form ts) (sym token) (first_fault form ts stop h'), subst (λ n. Says form ts n answer.what) (sym token) (says form ts stop answer.what h' what))
@@ -127,7 +127,7 @@ addition_moved ts from stop first None e wide is = sym wide ∙ is
 addition_moved ts from stop first (Some what) e wide (is, (t, rest, at, kind)) = (sym wide ∙ is, (t, rest, drop_twice ts from first.token ∙ ap (λ n. drop n ts) (sym e) ∙ at, kind))
 
 -- a phrase from a token on
-pub phrase_err : (form : Form) (ts : Text) (items : List Item) (from : ℕ) (stop : Halt) (answer : Stop) → start form ≡ items → Halts ts items from stop → answer.token ≡ stop.token → Names ts stop answer.what → ChecksFrom form ts from (Err answer)
+pub phrase_err : (form : Form) (ts : Text) (items : List Symbol) (from : ℕ) (stop : Halt) (answer : Stop) → start form ≡ items → Halts ts items from stop → answer.token ≡ stop.token → Names ts stop answer.what → ChecksFrom form ts from (Err answer)
 phrase_err form ts items from stop answer e h token what =
     let q = first_of_rest (drop from ts) items from stop (halts_whole ts items from stop h) in
     let first = q.0 in
@@ -140,7 +140,7 @@ phrase_err form ts items from stop answer e h token what =
 take_drop : (ts : Text) (n m : ℕ) → take m (drop n ts) ≡ drop n (take (n + m) ts)
 take_drop ts n m = sym (drop-take n m ts)
 
-pub phrase_ok : (form : Form) (ts : Text) (items : List Item) (from to : ℕ) → start form ≡ items → Passes ts items from to → ChecksFrom form ts from (Ok to)
+pub phrase_ok : (form : Form) (ts : Text) (items : List Symbol) (from to : ℕ) → start form ≡ items → Passes ts items from to → ChecksFrom form ts from (Ok to)
 phrase_ok form ts items from to e p = (p.order, record { within = shorter; phrase = phrase; over = over })
   where
     shorter : to - from ≤ length (drop from ts)
@@ -209,25 +209,25 @@ names_token text tokens stop what d below wide is =
     let within : stop.token < length (lexemes text tokens) = subst (λ n. stop.token < n) (sym (length-map tokens (lexeme text))) below in
     (wide, (lexeme text (get_or tokens stop.token d), drop (suc stop.token) (lexemes text tokens), drop-cons (lexemes text tokens) stop.token (lexeme text d) within ∙ ap (λ t. t ∷ drop (suc stop.token) (lexemes text tokens)) (get_or-map (lexeme text) tokens stop.token d (lexeme text d) below), is))
 
-phrase_bounds : (text : List ℕ) (tokens : List Token) (items : List Item) (from : ℕ) (stop : Halt) → Halts (lexemes text tokens) items from stop → Bounds (drop from (lexemes text tokens)) from stop
+phrase_bounds : (text : List ℕ) (tokens : List Token) (items : List Symbol) (from : ℕ) (stop : Halt) → Halts (lexemes text tokens) items from stop → Bounds (drop from (lexemes text tokens)) from stop
 phrase_bounds text tokens items from stop h = bounds (drop from (lexemes text tokens)) items from stop (halts_whole (lexemes text tokens) items from stop h)
 
 rest_length : (text : List ℕ) (tokens : List Token) (from : ℕ) → from ≤ length tokens → from + length (drop from (lexemes text tokens)) ≡ length tokens
 rest_length text tokens from within = ap (λ n. from + n) (length-drop from (lexemes text tokens) ∙ ap (λ n. n - from) (length-map tokens (lexeme text))) ∙ omega (arith, within)
 
-pub phrase_within : (text : List ℕ) (tokens : List Token) (items : List Item) (from : ℕ) (stop : Halt) → from ≤ length tokens → Halts (lexemes text tokens) items from stop → stop.token ≤ length tokens
+pub phrase_within : (text : List ℕ) (tokens : List Token) (items : List Symbol) (from : ℕ) (stop : Halt) → from ≤ length tokens → Halts (lexemes text tokens) items from stop → stop.token ≤ length tokens
 phrase_within text tokens items from stop within h = subst (λ n. stop.token ≤ n) (rest_length text tokens from within) (phrase_bounds text tokens items from stop h).within
 
-pub phrase_token : (text : List ℕ) (tokens : List Token) (items : List Item) (from : ℕ) (stop : Halt) → from ≤ length tokens → Halts (lexemes text tokens) items from stop → stop.wide ≡ true → stop.token < length tokens
+pub phrase_token : (text : List ℕ) (tokens : List Token) (items : List Symbol) (from : ℕ) (stop : Halt) → from ≤ length tokens → Halts (lexemes text tokens) items from stop → stop.wide ≡ true → stop.token < length tokens
 phrase_token text tokens items from stop within h wide = subst (λ n. stop.token < n) (rest_length text tokens from within) ((phrase_bounds text tokens items from stop h).token wide)
 
-pub text_whole : (form : Form) (text : List ℕ) (tokens : List Token) (items : List Item) (to : ℕ) → items ≡ start form → Passes (lexemes text tokens) items 0 to → to ≡ length tokens → IsOf false form (lexemes text tokens)
+pub text_whole : (form : Form) (text : List ℕ) (tokens : List Token) (items : List Symbol) (to : ℕ) → items ≡ start form → Passes (lexemes text tokens) items 0 to → to ≡ length tokens → IsOf false form (lexemes text tokens)
 text_whole form text tokens items to is p end = checks_ok form (lexemes text tokens) items is (whole_over (lexemes text tokens) items to p (end ∙ sym (length-map tokens (lexeme text))))
 
-pub text_part : (form : Form) (text : List ℕ) (tokens : List Token) (items : List Item) (to : ℕ) (answer : Stop) → items ≡ start form → Passes (lexemes text tokens) items 0 to → to ≢ length tokens → answer.token ≡ to → Names (lexemes text tokens) (halt to false) answer.what → IsFirstFault form (lexemes text tokens) answer.token × Says form (lexemes text tokens) answer.token answer.what
+pub text_part : (form : Form) (text : List ℕ) (tokens : List Token) (items : List Symbol) (to : ℕ) (answer : Stop) → items ≡ start form → Passes (lexemes text tokens) items 0 to → to ≢ length tokens → answer.token ≡ to → Names (lexemes text tokens) (halt to false) answer.what → IsFirstFault form (lexemes text tokens) answer.token × Says form (lexemes text tokens) answer.token answer.what
 text_part form text tokens items to answer is p not_end token what =
     let below : to < length (lexemes text tokens) = omega (arith, p.within, λ (e : to ≡ length (lexemes text tokens)). not_end (e ∙ length-map tokens (lexeme text))) in
     checks_err form (lexemes text tokens) items (halt to false) answer is (whole_part (lexemes text tokens) items to p below) token what
 
-pub text_err : (form : Form) (text : List ℕ) (tokens : List Token) (items : List Item) (stop : Halt) (answer : Stop) → items ≡ start form → Halts (lexemes text tokens) items 0 stop → answer.token ≡ stop.token → Names (lexemes text tokens) stop answer.what → IsFirstFault form (lexemes text tokens) answer.token × Says form (lexemes text tokens) answer.token answer.what
+pub text_err : (form : Form) (text : List ℕ) (tokens : List Token) (items : List Symbol) (stop : Halt) (answer : Stop) → items ≡ start form → Halts (lexemes text tokens) items 0 stop → answer.token ≡ stop.token → Names (lexemes text tokens) stop answer.what → IsFirstFault form (lexemes text tokens) answer.token × Says form (lexemes text tokens) answer.token answer.what
 text_err form text tokens items stop answer is h token what = checks_err form (lexemes text tokens) items stop answer is (halts_whole (lexemes text tokens) items 0 stop h) token what

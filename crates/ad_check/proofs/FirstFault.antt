@@ -1,6 +1,6 @@
 -- The first fault: where the reading stops is the first token at which no text of the grammar goes on.
 use Rattle.std.proofs.Common.{◌≡◌, ◌≢◌, ℕ, suc, ◌+◌, ◌<◌, ◌≤◌, Bool, true, false, List, [], ◌∷◌, ◌++◌, length, take, Option, None, Some, refl, sym, ◌∙◌, ap, subst, arith, append_assoc, append-nil}
-use Rattle.std.specs.Prelude.{codes, if◌then◌else◌}
+use Rattle.std.specs.Prelude.{if◌then◌else◌}
 use Rattle.std.specs.Option.{is_some}
 use Rattle.std.specs.Str.{bytes_eq}
 use Rattle.std.proofs.lemmas.Bool.{true≢false}
@@ -8,12 +8,13 @@ use Rattle.std.proofs.lemmas.List.{length-append}
 use Rattle.ad_lex.proofs.Pieces.{bytes_same}
 use Rattle.ad_lex.specs.Lexemes.{Lexeme}
 use Rattle.ad_lex.specs.Lexemes as says
+use Rattle.ad_write.specs.Keywords as kw
 use Rattle.ad_grammar.specs.Shapes.{Text}
 use Rattle.ad_grammar.specs.Faults.{Form, class, range, property, individual, literal, document, edit, seed, single, IsOf, Begins, IsFirstFault, IsWide, Tells}
-use Rattle.ad_check.specs.declared.items.Item.{Item}
-use Rattle.ad_check.specs.declared.items.Item.TheVariants as it
-use Rattle.ad_check.specs.declared.items.Kind.{Kind}
-use Rattle.ad_check.specs.declared.items.Kind.TheVariants as kind
+use Rattle.ad_check.specs.declared.items.Symbol.{Symbol}
+use Rattle.ad_check.specs.declared.items.Symbol.TheVariants as it
+use Rattle.ad_check.specs.declared.items.Nonterminal.{Nonterminal}
+use Rattle.ad_check.specs.declared.items.Nonterminal.TheVariants as kind
 use Rattle.ad_check.specs.declared.items.Halt.{Halt}
 use Rattle.ad_check.specs.Machine.{row, opens, skips, after, step, ends, accepts, behind, lookup, end, until, first_row, body, note_rows, fault, go_on, halt, start}
 use Rattle.ad_check.proofs.Taken.{none_is, none_not_some, accepts_step, accepts_none}
@@ -23,12 +24,12 @@ use Rattle.ad_check.proofs.Sound.{sound, row_wider}
 use Rattle.ad_check.proofs.Rests.{rests, well, completed, step_well, skip_same, well_wider}
 
 -- the wide grammar goes on wherever the plain one does
-behind_wider : (k : Kind) (t : Lexeme) (more r : List Item) → behind more (row false k t) ≡ Some r → behind more (row true k t) ≡ Some r
+behind_wider : (k : Nonterminal) (t : Lexeme) (more r : List Symbol) → behind more (row false k t) ≡ Some r → behind more (row true k t) ≡ Some r
 behind_wider k t more r h =
     let b = behind_back more (row false k t) r h in
     ap (behind more) (row_wider true k t b.0 b.1) ∙ ap Some b.2
 
-until_wider : (k : Kind) (t : Lexeme) (r : List Item) → until false k t ≡ Some r → until true k t ≡ Some r
+until_wider : (k : Nonterminal) (t : Lexeme) (r : List Symbol) → until false k t ≡ Some r → until true k t ≡ Some r
 until_wider k says.Left r h = behind_wider k says.Left (it.Until k ∷ []) r h
 until_wider k says.Right r h = h
 until_wider k says.Equals r h = behind_wider k says.Equals (it.Until k ∷ []) r h
@@ -42,7 +43,7 @@ until_wider k (says.Short prefix local) r h = behind_wider k (says.Short prefix 
 until_wider k (says.Node label) r h = behind_wider k (says.Node label) (it.Until k ∷ []) r h
 until_wider k (says.Lang tag) r h = behind_wider k (says.Lang tag) (it.Until k ∷ []) r h
 
-end_wider : (t : Lexeme) (r : List Item) → end false t ≡ Some r → end true t ≡ Some r
+end_wider : (t : Lexeme) (r : List Symbol) → end false t ≡ Some r → end true t ≡ Some r
 end_wider says.Left r h = absurd (none_not_some r h)
 end_wider says.Right r h = h
 end_wider says.Equals r h = absurd (none_not_some r h)
@@ -57,18 +58,18 @@ end_wider (says.Node label) r h = absurd (none_not_some r h)
 end_wider (says.Lang tag) r h = absurd (none_not_some r h)
 
 -- the word of an import has no row in the plain grammar
-no_import_row : (word : List ℕ) → bytes_eq (codes "Import") word ≡ true → first_row (behind (it.Star kind.Note ∷ it.Until kind.Axiom ∷ []) (lookup note_rows word)) (until false kind.Axiom (says.Plain word)) ≡ None
-no_import_row word e = subst (λ u. first_row (behind (it.Star kind.Note ∷ it.Until kind.Axiom ∷ []) (lookup note_rows u)) (until false kind.Axiom (says.Plain u)) ≡ None) (bytes_same (codes "Import") word e) refl
+no_import_row : (word : List ℕ) → bytes_eq kw.Import word ≡ true → first_row (behind (it.Star kind.Note ∷ it.Until kind.Axiom ∷ []) (lookup note_rows word)) (until false kind.Axiom (says.Plain word)) ≡ None
+no_import_row word e = subst (λ u. first_row (behind (it.Star kind.Note ∷ it.Until kind.Axiom ∷ []) (lookup note_rows u)) (until false kind.Axiom (says.Plain u)) ≡ None) (bytes_same kw.Import word e) refl
 
-note_or_wider : (word : List ℕ) (note : Option (List Item)) (r : List Item) → first_row (behind (it.Star kind.Note ∷ it.Until kind.Axiom ∷ []) note) (until false kind.Axiom (says.Plain word)) ≡ Some r → first_row (behind (it.Star kind.Note ∷ it.Until kind.Axiom ∷ []) note) (until true kind.Axiom (says.Plain word)) ≡ Some r
+note_or_wider : (word : List ℕ) (note : Option (List Symbol)) (r : List Symbol) → first_row (behind (it.Star kind.Note ∷ it.Until kind.Axiom ∷ []) note) (until false kind.Axiom (says.Plain word)) ≡ Some r → first_row (behind (it.Star kind.Note ∷ it.Until kind.Axiom ∷ []) note) (until true kind.Axiom (says.Plain word)) ≡ Some r
 note_or_wider word None r h = until_wider kind.Axiom (says.Plain word) r h
 note_or_wider word (Some x) r h = h
 
-word_wider : (word : List ℕ) (b : Bool) → bytes_eq (codes "Import") word ≡ b → (r : List Item) → body false (says.Plain word) ≡ Some r → body true (says.Plain word) ≡ Some r
+word_wider : (word : List ℕ) (b : Bool) → bytes_eq kw.Import word ≡ b → (r : List Symbol) → body false (says.Plain word) ≡ Some r → body true (says.Plain word) ≡ Some r
 word_wider word true e r h = absurd (none_not_some r (sym (no_import_row word e) ∙ h))
 word_wider word false e r h = rw e (note_or_wider word (lookup note_rows word) r h)
 
-body_wider : (t : Lexeme) (r : List Item) → body false t ≡ Some r → body true t ≡ Some r
+body_wider : (t : Lexeme) (r : List Symbol) → body false t ≡ Some r → body true t ≡ Some r
 body_wider says.Left r h = until_wider kind.Axiom says.Left r h
 body_wider says.Right r h = until_wider kind.Axiom says.Right r h
 body_wider says.Equals r h = until_wider kind.Axiom says.Equals r h
@@ -77,12 +78,12 @@ body_wider says.Plus r h = until_wider kind.Axiom says.Plus r h
 body_wider says.Minus r h = until_wider kind.Axiom says.Minus r h
 body_wider (says.Iri name) r h = until_wider kind.Axiom (says.Iri name) r h
 body_wider (says.Text value) r h = until_wider kind.Axiom (says.Text value) r h
-body_wider (says.Plain word) r h = word_wider word (bytes_eq (codes "Import") word) refl r h
+body_wider (says.Plain word) r h = word_wider word (bytes_eq kw.Import word) refl r h
 body_wider (says.Short prefix local) r h = until_wider kind.Axiom (says.Short prefix local) r h
 body_wider (says.Node label) r h = until_wider kind.Axiom (says.Node label) r h
 body_wider (says.Lang tag) r h = until_wider kind.Axiom (says.Lang tag) r h
 
-opens_wider : (item : Item) (t : Lexeme) (r : List Item) → opens false item t ≡ Some r → opens true item t ≡ Some r
+opens_wider : (item : Symbol) (t : Lexeme) (r : List Symbol) → opens false item t ≡ Some r → opens true item t ≡ Some r
 opens_wider it.Left t r h = h
 opens_wider it.Right t r h = h
 opens_wider it.Equals t r h = h
@@ -98,11 +99,11 @@ opens_wider (it.Star k) t r h = h
 opens_wider (it.Maybe k) t r h = h
 opens_wider (it.Until k) t r h = until_wider k t r h
 
-step_wider : (items : List Item) (t : Lexeme) (next : List Item) → step false items t ≡ Some next → step true items t ≡ Some next
+step_wider : (items : List Symbol) (t : Lexeme) (next : List Symbol) → step false items t ≡ Some next → step true items t ≡ Some next
 step_wider [] t next h = absurd (none_not_some next h)
 step_wider (item ∷ items) t next h = by_opens (opens false item t) refl (skips item) refl (step_wider items t next) h
   where
-    by_opens : (o : Option (List Item)) → opens false item t ≡ o → (s : Bool) → skips item ≡ s → (step false items t ≡ Some next → step true items t ≡ Some next) → after item items o (step false items t) ≡ Some next → step true (item ∷ items) t ≡ Some next
+    by_opens : (o : Option (List Symbol)) → opens false item t ≡ o → (s : Bool) → skips item ≡ s → (step false items t ≡ Some next → step true items t ≡ Some next) → after item items o (step false items t) ≡ Some next → step true (item ∷ items) t ≡ Some next
     by_opens (Some x) e s e' later h' = ap (λ o. after item items o (step true items t)) (opens_wider item t x e) ∙ h'
     by_opens None e true e' later h' = ap (λ o. after item items o (step true items t)) (skip_same true item t e' ∙ e) ∙ rw e' (later (sym (rw e' refl) ∙ h'))
     by_opens None e false e' later h' = absurd (none_not_some next (sym (rw e' refl) ∙ h'))
@@ -111,12 +112,12 @@ at_nothing : (at : ℕ) → at ≡ at + 0
 at_nothing at = omega arith
 
 -- where a text stops: its front leads to a list of items that goes on no more
-record Stopped (items : List Item) (ts : Text) (at : ℕ) (stop : Halt) : Type 0 where
+record Stopped (items : List Symbol) (ts : Text) (at : ℕ) (stop : Halt) : Type 0 where
   front : Text
   rest : Text
   is : ts ≡ front ++ rest
   place : stop.token ≡ at + length front
-  state : List Item
+  state : List Symbol
   narrow : (b : Text) → accepts false items (front ++ b) ≡ accepts false state b
   broad : (b : Text) → accepts true items (front ++ b) ≡ accepts true state b
   good : well false state ≡ true
@@ -144,7 +145,7 @@ cons_not_nil t ts e = true≢false (ap some_token e)
     some_token [] = false
     some_token (x ∷ xs) = true
 
-stopped : (ts : Text) (items : List Item) (at : ℕ) (stop : Halt) → well false items ≡ true → fault at items ts ≡ Some stop → Stopped items ts at stop
+stopped : (ts : Text) (items : List Symbol) (at : ℕ) (stop : Halt) → well false items ≡ true → fault at items ts ≡ Some stop → Stopped items ts at stop
 stopped [] items at stop good h = by_end (ends items) refl h
   where
     by_end : (b : Bool) → ends items ≡ b → (if b then None else Some (halt at false)) ≡ Some stop → Stopped items [] at stop
@@ -165,7 +166,7 @@ stopped [] items at stop good h = by_end (ends items) refl h
         }
 stopped (t ∷ ts) items at stop good h = by_step (step false items t) refl h (stopped ts)
   where
-    by_step : (o : Option (List Item)) → step false items t ≡ o → go_on (λ next. fault (at + 1) next ts) (halt at (is_some (step true items t))) o ≡ Some stop → ((next : List Item) (at' : ℕ) (stop' : Halt) → well false next ≡ true → fault at' next ts ≡ Some stop' → Stopped next ts at' stop') → Stopped items (t ∷ ts) at stop
+    by_step : (o : Option (List Symbol)) → step false items t ≡ o → go_on (λ next. fault (at + 1) next ts) (halt at (is_some (step true items t))) o ≡ Some stop → ((next : List Symbol) (at' : ℕ) (stop' : Halt) → well false next ≡ true → fault at' next ts ≡ Some stop' → Stopped next ts at' stop') → Stopped items (t ∷ ts) at stop
     by_step None e h' later =
         let same : halt at (is_some (step true items t)) ≡ stop = halt_is (halt at (is_some (step true items t))) stop h' in
         record {
@@ -196,7 +197,7 @@ stopped (t ∷ ts) items at stop good h = by_step (step false items t) refl h (s
         }
 
 -- a text that doesn't stop is read to its end
-pub none_read : (ts : Text) (items : List Item) (at : ℕ) → fault at items ts ≡ None → accepts false items ts ≡ true
+pub none_read : (ts : Text) (items : List Symbol) (at : ℕ) → fault at items ts ≡ None → accepts false items ts ≡ true
 none_read [] items at h = by_end (ends items) h
   where
     by_end : (b : Bool) → (if b then None else Some (halt at false)) ≡ None → b ≡ true
@@ -204,7 +205,7 @@ none_read [] items at h = by_end (ends items) h
     by_end false h' = absurd (none_not_some (halt at false) (sym h'))
 none_read (t ∷ ts) items at h = by_step (step false items t) refl h (none_read ts)
   where
-    by_step : (o : Option (List Item)) → step false items t ≡ o → go_on (λ next. fault (at + 1) next ts) (halt at (is_some (step true items t))) o ≡ None → ((next : List Item) (at' : ℕ) → fault at' next ts ≡ None → accepts false next ts ≡ true) → accepts false items (t ∷ ts) ≡ true
+    by_step : (o : Option (List Symbol)) → step false items t ≡ o → go_on (λ next. fault (at + 1) next ts) (halt at (is_some (step true items t))) o ≡ None → ((next : List Symbol) (at' : ℕ) → fault at' next ts ≡ None → accepts false next ts ≡ true) → accepts false items (t ∷ ts) ≡ true
     by_step None e h' later = absurd (none_not_some (halt at (is_some (step true items t))) (sym h'))
     by_step (Some next) e h' later = accepts_step false items next t ts e ∙ later next (at + 1) h'
 
@@ -296,7 +297,7 @@ module _ (form : Form) (ts : Text) (stop : Halt) (h : fault 0 (start form) ts �
       front_within : (front rest : Text) → length front ≤ length (front ++ rest)
       front_within front rest = rw (length-append front rest) (omega arith)
 
-  goes_wide : (t : Lexeme) (more : Text) → q.rest ≡ t ∷ more → (next : List Item) → step true q.state t ≡ Some next → Begins true form (take (stop.token + 1) ts)
+  goes_wide : (t : Lexeme) (more : Text) → q.rest ≡ t ∷ more → (next : List Symbol) → step true q.state t ≡ Some next → Begins true form (take (stop.token + 1) ts)
   goes_wide t more e next goes_on = (rests next, sound true form (take (stop.token + 1) ts ++ rests next) (read_with true t more (rests next) e q.broad ∙ accepts_step true q.state next t (rests next) goes_on ∙ completed true next (step_well true q.state t next goes_on (well_wider q.state q.good))))
 
   below_end : (t : Lexeme) (more : Text) → q.rest ≡ t ∷ more → stop.token < length ts
@@ -313,7 +314,7 @@ module _ (form : Form) (ts : Text) (stop : Halt) (h : fault 0 (start form) ts �
   by_rest [] e false is = λ wide. (let s = a_token wide.0 in cons_not_nil s.token s.more (sym s.is ∙ e))
   by_rest (t ∷ more) e true is = by_step (step true q.state t) refl
     where
-      by_step : (o : Option (List Item)) → step true q.state t ≡ o → IsWide form ts stop.token
+      by_step : (o : Option (List Symbol)) → step true q.state t ≡ o → IsWide form ts stop.token
       by_step None none = absurd (true≢false (sym is ∙ sym (q.at_token t more e).1 ∙ ap is_some none))
       by_step (Some next) goes_on = (below_end t more e, goes_wide t more e next goes_on)
   by_rest (t ∷ more) e false is = λ wide.

@@ -7,8 +7,8 @@ use Rattle.ad_lex.specs.Lexemes.{Lexeme}
 use Rattle.ad_lex.specs.Lexemes as says
 use Rattle.ad_grammar.specs.Shapes.{Text}
 use Rattle.ad_grammar.specs.Faults.{Form, IsOf, Begins, IsFirstFault, IsLongest, IsNoPhrase}
-use Rattle.ad_check.specs.declared.items.Item.{Item}
-use Rattle.ad_check.specs.declared.items.Item.TheVariants as it
+use Rattle.ad_check.specs.declared.items.Symbol.{Symbol}
+use Rattle.ad_check.specs.declared.items.Symbol.TheVariants as it
 use Rattle.ad_check.specs.declared.items.Halt.{Halt}
 use Rattle.ad_check.specs.Machine.{opens, skips, after, step, ends, accepts, behind, fault, go_on, halt, start}
 use Rattle.ad_check.proofs.Readings.{some_not_none, step_opens, fault_step, fault_stop}
@@ -19,21 +19,21 @@ use Rattle.ad_check.proofs.FirstFault.{halt_is}
 use Rattle.ad_check.proofs.Decided.{begins_shorter}
 
 -- more items behind those that go on at a token
-step_more : (items more : List Item) (t : Lexeme) (next : List Item) → step false items t ≡ Some next → step false (items ++ more) t ≡ Some (next ++ more)
+step_more : (items more : List Symbol) (t : Lexeme) (next : List Symbol) → step false items t ≡ Some next → step false (items ++ more) t ≡ Some (next ++ more)
 step_more [] more t next h = absurd (none_not_some next h)
 step_more (item ∷ items) more t next h = by_opens (opens false item t) refl (skips item) refl (step_more items more t next) h
   where
-    by_opens : (o : Option (List Item)) → opens false item t ≡ o → (s : Bool) → skips item ≡ s → (step false items t ≡ Some next → step false (items ++ more) t ≡ Some (next ++ more)) → after item items o (step false items t) ≡ Some next → step false (item ∷ (items ++ more)) t ≡ Some (next ++ more)
+    by_opens : (o : Option (List Symbol)) → opens false item t ≡ o → (s : Bool) → skips item ≡ s → (step false items t ≡ Some next → step false (items ++ more) t ≡ Some (next ++ more)) → after item items o (step false items t) ≡ Some next → step false (item ∷ (items ++ more)) t ≡ Some (next ++ more)
     by_opens (Some r) e s e' later h' = step_opens false item (items ++ more) r t e ∙ ap Some (sym (append_assoc r items more)) ∙ ap (behind more) h'
     by_opens None e true e' later h' = ap (λ o. after item (items ++ more) o (step false (items ++ more) t)) e ∙ rw e' (later (sym (rw e' refl) ∙ h'))
     by_opens None e false e' later h' = absurd (none_not_some next (sym (rw e' refl) ∙ h'))
 
 -- more items behind those that may be absent and don't take a token
-step_over : (w : Bool) (items more : List Item) (t : Lexeme) → ends items ≡ true → step false items t ≡ None → step w (items ++ more) t ≡ step w more t
+step_over : (w : Bool) (items more : List Symbol) (t : Lexeme) → ends items ≡ true → step false items t ≡ None → step w (items ++ more) t ≡ step w more t
 step_over w [] more t e h = refl
 step_over w (item ∷ items) more t e h = by_opens (opens false item t) refl (both (skips item) (ends items) e) (step_over w items more t) h
   where
-    by_opens : (o : Option (List Item)) → opens false item t ≡ o → (skips item ≡ true) × (ends items ≡ true) → (ends items ≡ true → step false items t ≡ None → step w (items ++ more) t ≡ step w more t) → after item items o (step false items t) ≡ None → step w (item ∷ (items ++ more)) t ≡ step w more t
+    by_opens : (o : Option (List Symbol)) → opens false item t ≡ o → (skips item ≡ true) × (ends items ≡ true) → (ends items ≡ true → step false items t ≡ None → step w (items ++ more) t ≡ step w more t) → after item items o (step false items t) ≡ None → step w (item ∷ (items ++ more)) t ≡ step w more t
     by_opens (Some r) is may later h' = absurd (some_not_none (r ++ items) h')
     by_opens None is (may, end) later h' = ap (λ o. after item (items ++ more) o (step w (items ++ more) t)) (skip_same w item t may ∙ is) ∙ rw may (later end (sym (rw may refl) ∙ h'))
 
@@ -53,10 +53,10 @@ any_goes (says.Node label) = refl
 any_goes (says.Lang tag) = refl
 
 -- items whose reading stops at a token whatever stands behind them: not all of them may be absent there
-none_ends : (items : List Item) (at : ℕ) (stop : Halt) (t : Lexeme) (ts : Text) → ((more : List Item) → fault at (items ++ more) (t ∷ ts) ≡ Some stop) → step false items t ≡ None → ends items ≡ true → ⊥
+none_ends : (items : List Symbol) (at : ℕ) (stop : Halt) (t : Lexeme) (ts : Text) → ((more : List Symbol) → fault at (items ++ more) (t ∷ ts) ≡ Some stop) → step false items t ≡ None → ends items ≡ true → ⊥
 none_ends items at stop t ts h none end = true≢false (sym wide ∙ narrow)
   where
-    stops : (more : List Item) → step false more t ≡ None → is_some (step true more t) ≡ stop.wide
+    stops : (more : List Symbol) → step false more t ≡ None → is_some (step true more t) ≡ stop.wide
     stops more none' =
         let same : halt at (is_some (step true (items ++ more) t)) ≡ stop = halt_is (halt at (is_some (step true (items ++ more) t))) stop (sym (fault_stop at (items ++ more) t ts (step_over false items more t end none ∙ none')) ∙ h more) in
         ap is_some (sym (step_over true items more t end none)) ∙ ap (λ s. s.wide) same
@@ -68,7 +68,7 @@ none_ends items at stop t ts h none end = true≢false (sym wide ∙ narrow)
     wide = sym (stops (it.Any ∷ []) refl) ∙ any_goes t
 
 -- The tokens before the stop of items are not read to their end, if the items stop there whatever stands behind them.
-pub none_before : (ts : Text) (items : List Item) (at : ℕ) (stop : Halt) → ((more : List Item) → fault at (items ++ more) ts ≡ Some stop) → (at ≤ stop.token) × (accepts false items (take (stop.token - at) ts) ≡ false)
+pub none_before : (ts : Text) (items : List Symbol) (at : ℕ) (stop : Halt) → ((more : List Symbol) → fault at (items ++ more) ts ≡ Some stop) → (at ≤ stop.token) × (accepts false items (take (stop.token - at) ts) ≡ false)
 none_before [] items at stop h = by_end (ends items) refl (ap (λ is. fault at is []) (sym (append-nil items)) ∙ h [])
   where
     by_end : (b : Bool) → ends items ≡ b → (if b then None else Some (halt at false)) ≡ Some stop → (at ≤ stop.token) × (accepts false items (take (stop.token - at) []) ≡ false)
@@ -83,7 +83,7 @@ none_before (t ∷ ts) items at stop h = by_step (step false items t) refl (ap (
     not_all true e none = absurd (none_ends items at stop t ts h none e)
     not_all false e none = e
 
-    by_step : (o : Option (List Item)) → step false items t ≡ o → go_on (λ next. fault (at + 1) next ts) (halt at (is_some (step true items t))) o ≡ Some stop → ((next : List Item) (at' : ℕ) (stop' : Halt) → ((more : List Item) → fault at' (next ++ more) ts ≡ Some stop') → (at' ≤ stop'.token) × (accepts false next (take (stop'.token - at') ts) ≡ false)) → (at ≤ stop.token) × (accepts false items (take (stop.token - at) (t ∷ ts)) ≡ false)
+    by_step : (o : Option (List Symbol)) → step false items t ≡ o → go_on (λ next. fault (at + 1) next ts) (halt at (is_some (step true items t))) o ≡ Some stop → ((next : List Symbol) (at' : ℕ) (stop' : Halt) → ((more : List Symbol) → fault at' (next ++ more) ts ≡ Some stop') → (at' ≤ stop'.token) × (accepts false next (take (stop'.token - at') ts) ≡ false)) → (at ≤ stop.token) × (accepts false items (take (stop.token - at) (t ∷ ts)) ≡ false)
     by_step None e h' later =
         let here : at ≡ stop.token = ap (λ s. s.token) (halt_is (halt at (is_some (step true items t))) stop h') in
         let nothing : stop.token - at ≡ 0 = omega (arith, here) in

@@ -6,7 +6,7 @@ use Rattle.ad_tree.specs.declared.names.ObjProp.{ObjProp}
 use Rattle.ad_tree.specs.declared.names.Individual.{Individual}
 use Rattle.ad_tree.specs.declared.literals.Literal.{Literal}
 use Rattle.ad_tree.specs.declared.literals.Facet.{Facet}
-use Rattle.ad_tree.specs.declared.entities.Entity.{Entity}
+use Rattle.ad_entity.specs.declared.entities.Entity.{Entity}
 use Rattle.ad_tree.specs.declared.edits.Sign.{Sign}
 use Rattle.ad_tree.specs.declared.notes.Subject.{Subject}
 use Rattle.ad_tree.specs.declared.notes.Value.{Value}
@@ -19,10 +19,10 @@ use Rattle.ad_grammar.specs.Names.{Words, IsName, IsNumber, SpellsProperty, Spel
 use Rattle.ad_grammar.specs.Phrases.{Extra, SpellsRange, SpellsClass, SpellsAnnotation}
 use Rattle.ad_grammar.specs.Texts.{Declared, SpellsDeclared, Imports, Matching, AreNotes, Ontology}
 use Rattle.ad_grammar.specs.Faults.{Statement, SpellsStatement, IsLogicalStatement, SpellsSigned}
-use Rattle.ad_check.specs.declared.items.Item.{Item}
-use Rattle.ad_check.specs.declared.items.Item.TheVariants as it
-use Rattle.ad_check.specs.declared.items.Kind.{Kind}
-use Rattle.ad_check.specs.declared.items.Kind.TheVariants as kind
+use Rattle.ad_check.specs.declared.items.Symbol.{Symbol}
+use Rattle.ad_check.specs.declared.items.Symbol.TheVariants as it
+use Rattle.ad_check.specs.declared.items.Nonterminal.{Nonterminal}
+use Rattle.ad_check.specs.declared.items.Nonterminal.TheVariants as kind
 use Rattle.ad_check.specs.Machine.{behind}
 use Rattle.ad_check.proofs.Taken.{none_not_some}
 
@@ -31,7 +31,7 @@ abbrev pub every : Words
 every prefix = Some []
 
 -- the trees of each kind
-abbrev pub Val : Kind → Type 0
+abbrev pub Val : Nonterminal → Type 0
 Val kind.Name = List ℕ
 Val kind.Number = ℕ
 Val kind.Property = ObjProp
@@ -55,7 +55,7 @@ abbrev pub SpellsLink : ObjProp ⊎ List ObjProp → Text → Type 0
 SpellsLink (inl p) ts = SpellsProperty every p ts
 SpellsLink (inr chain) ts = Compound kw.ObjectPropertyChain (Many1 (SpellsProperty every) chain) ts
 
-abbrev pub SpellsKind : Bool → (k : Kind) → Val k → Text → Type 0
+abbrev pub SpellsKind : Bool → (k : Nonterminal) → Val k → Text → Type 0
 SpellsKind w kind.Name v ts = IsName every v ts
 SpellsKind w kind.Number v ts = IsNumber v ts
 SpellsKind w kind.Property v ts = SpellsProperty every v ts
@@ -85,7 +85,7 @@ IsTail ts = (ts ≡ []) ⊎ (((tag : List ℕ) × (ts ≡ says.Lang tag ∷ []))
 abbrev pub IsFiller : Bool → Text → Type 0
 IsFiller w ts = Closed (λ inner. (x : Range) × Then (Extra w every) (SpellsRange every x) inner) ts
 
-abbrev pub Meaning : Bool → Item → Text → Type 0
+abbrev pub Meaning : Bool → Symbol → Text → Type 0
 Meaning w it.Left ts = ts ≡ says.Left ∷ []
 Meaning w it.Right ts = ts ≡ says.Right ∷ []
 Meaning w it.Equals ts = ts ≡ says.Equals ∷ []
@@ -101,50 +101,50 @@ Meaning w (it.Star k) ts = (vs : List (Val k)) × Many0 (SpellsKind w k) vs ts
 Meaning w (it.Maybe k) ts = (v : Option (Val k)) × Optional (SpellsKind w k) v ts
 Meaning w (it.Until k) ts = Closed (λ inner. (vs : List (Val k)) × Many0 (SpellsKind w k) vs inner) ts
 
-abbrev pub Means : Bool → List Item → Text → Type 0
+abbrev pub Means : Bool → List Symbol → Text → Type 0
 Means w [] ts = ts ≡ []
 Means w (item ∷ items) ts = Then (Meaning w item) (Means w items) ts
 
-pub some_is : (x y : List Item) → Some x ≡ Some y → x ≡ y
+pub some_is : (x y : List Symbol) → Some x ≡ Some y → x ≡ y
 some_is x y e = ap from e
   where
-    from : Option (List Item) → List Item
+    from : Option (List Symbol) → List Symbol
     from None = []
     from (Some r) = r
 
 -- a row behind which more stands
-pub behind_back : (more : List Item) (o : Option (List Item)) (r : List Item) → behind more o ≡ Some r → (x : List Item) × (o ≡ Some x) × (x ++ more ≡ r)
+pub behind_back : (more : List Symbol) (o : Option (List Symbol)) (r : List Symbol) → behind more o ≡ Some r → (x : List Symbol) × (o ≡ Some x) × (x ++ more ≡ r)
 behind_back more None r e = absurd (none_not_some r e)
 behind_back more (Some x) r e = (x, refl, some_is (x ++ more) r e)
 
 module _ (w : Bool) where
-  pub means_one : (item : Item) (a : Text) → Means w (item ∷ []) a → Meaning w item a
+  pub means_one : (item : Symbol) (a : Text) → Means w (item ∷ []) a → Meaning w item a
   means_one item a (x, y, e, h, none) = subst (Meaning w item) (sym (e ∙ ap (λ us. x ++ us) none ∙ append-nil x)) h
 
-  pub means_split : (r items : List Item) (ts : Text) → Means w (r ++ items) ts → Then (Means w r) (Means w items) ts
+  pub means_split : (r items : List Symbol) (ts : Text) → Means w (r ++ items) ts → Then (Means w r) (Means w items) ts
   means_split [] items ts m = ([], ts, refl, refl, m)
   means_split (item ∷ r) items ts (a, b, e, h, m) =
       let q = means_split r items b m in
       (a ++ q.0, q.1, e ∙ ap (λ us. a ++ us) q.2 ∙ sym (append_assoc a q.0 q.1), (a, q.0, refl, h, q.3), q.4)
 
-  pub means_join : (r items : List Item) (a b : Text) → Means w r a → Means w items b → Means w (r ++ items) (a ++ b)
+  pub means_join : (r items : List Symbol) (a b : Text) → Means w r a → Means w items b → Means w (r ++ items) (a ++ b)
   means_join [] items a b e m = subst (λ us. Means w items (us ++ b)) (sym e) m
   means_join (item ∷ r) items a b (x, y, e, h, n) m = (x, y ++ b, ap (λ us. us ++ b) e ∙ append_assoc x y b, h, means_join r items y b n m)
 
   -- the arguments of a row
-  abbrev pub ArgVal : Item → Type 0
+  abbrev pub ArgVal : Symbol → Type 0
   ArgVal (it.One k) = Val k
   ArgVal (it.Star k) = List (Val k)
   ArgVal (it.Maybe k) = Option (Val k)
   ArgVal _ = Unit {0}
 
-  abbrev pub SpellsArg : (item : Item) → ArgVal item → Text → Type 0
+  abbrev pub SpellsArg : (item : Symbol) → ArgVal item → Text → Type 0
   SpellsArg (it.One k) v ts = SpellsKind w k v ts
   SpellsArg (it.Star k) vs ts = Many0 (SpellsKind w k) vs ts
   SpellsArg (it.Maybe k) v ts = Optional (SpellsKind w k) v ts
   SpellsArg item v ts = Meaning w item ts
 
-  arg_back : (item : Item) (ts : Text) → Meaning w item ts → (v : ArgVal item) × SpellsArg item v ts
+  arg_back : (item : Symbol) (ts : Text) → Meaning w item ts → (v : ArgVal item) × SpellsArg item v ts
   arg_back it.Left ts h = (tt, h)
   arg_back it.Right ts h = (tt, h)
   arg_back it.Equals ts h = (tt, h)
@@ -160,17 +160,17 @@ module _ (w : Bool) where
   arg_back (it.Maybe k) ts h = h
   arg_back (it.Until k) ts h = (tt, h)
 
-  abbrev pub Vals : List Item → Type 0
+  abbrev pub Vals : List Symbol → Type 0
   Vals [] = Unit {0}
   Vals (i ∷ []) = ArgVal i
   Vals (i ∷ j ∷ r) = ArgVal i × Vals (j ∷ r)
 
-  abbrev pub SpellsArgs : (items : List Item) → Vals items → Text → Type 0
+  abbrev pub SpellsArgs : (items : List Symbol) → Vals items → Text → Type 0
   SpellsArgs [] v ts = ts ≡ []
   SpellsArgs (i ∷ []) v ts = SpellsArg i v ts
   SpellsArgs (i ∷ j ∷ r) v ts = Then (SpellsArg i v.0) (SpellsArgs (j ∷ r) v.1) ts
 
-  args_back : (items : List Item) (ts : Text) → Means w items ts → (v : Vals items) × SpellsArgs items v ts
+  args_back : (items : List Symbol) (ts : Text) → Means w items ts → (v : Vals items) × SpellsArgs items v ts
   args_back [] ts e = (tt, e)
   args_back (i ∷ []) ts m = arg_back i ts (means_one i ts m)
   args_back (i ∷ j ∷ r) ts (a, b, e, h, m) =
@@ -179,14 +179,14 @@ module _ (w : Bool) where
       ((first.0, others.0), (a, b, e, first.1, others.1))
 
   -- arguments and a closing parenthesis
-  closed_back : (items : List Item) (ts : Text) → Means w (items ++ it.Right ∷ []) ts → (v : Vals items) × Closed (SpellsArgs items v) ts
+  closed_back : (items : List Symbol) (ts : Text) → Means w (items ++ it.Right ∷ []) ts → (v : Vals items) × Closed (SpellsArgs items v) ts
   closed_back items ts m =
       let q = means_split items (it.Right ∷ []) ts m in
       let args = args_back items q.0 q.3 in
       (args.0, (q.0, q.2 ∙ ap (λ us. q.0 ++ us) (means_one it.Right q.1 q.4), args.1))
 
   -- the same where the last argument is a list
-  until_back : (items : List Item) (k : Kind) (ts : Text) → Means w (items ++ it.Until k ∷ []) ts → (v : Vals (items ++ it.Star k ∷ [])) × Closed (SpellsArgs (items ++ it.Star k ∷ []) v) ts
+  until_back : (items : List Symbol) (k : Nonterminal) (ts : Text) → Means w (items ++ it.Until k ∷ []) ts → (v : Vals (items ++ it.Star k ∷ [])) × Closed (SpellsArgs (items ++ it.Star k ∷ []) v) ts
   until_back items k ts m =
       let q = means_split items (it.Until k ∷ []) ts m in
       let l = means_one (it.Until k) q.1 q.4 in
@@ -194,17 +194,17 @@ module _ (w : Bool) where
       let args = args_back (items ++ it.Star k ∷ []) (q.0 ++ l.0) (means_join items (it.Star k ∷ []) q.0 l.0 q.3 star) in
       (args.0, (q.0 ++ l.0, q.2 ∙ ap (λ us. q.0 ++ us) l.1 ∙ sym (append_assoc q.0 l.0 (says.Right ∷ [])), args.1))
 
-  pub left_back : (items : List Item) (ts : Text) → Means w (it.Left ∷ items) ts → (rest : Text) × (ts ≡ says.Left ∷ rest) × Means w items rest
+  pub left_back : (items : List Symbol) (ts : Text) → Means w (it.Left ∷ items) ts → (rest : Text) × (ts ≡ says.Left ∷ rest) × Means w items rest
   left_back items ts (a, b, e, h, m) = (b, e ∙ ap (λ us. us ++ b) h, m)
 
   -- a keyword and its arguments
-  pub enclosed_back : (word : List ℕ) (items : List Item) (ts : Text) → Means w (it.Left ∷ (items ++ it.Right ∷ [])) ts → (v : Vals items) × Compound word (SpellsArgs items v) (says.Plain word ∷ ts)
+  pub enclosed_back : (word : List ℕ) (items : List Symbol) (ts : Text) → Means w (it.Left ∷ (items ++ it.Right ∷ [])) ts → (v : Vals items) × Compound word (SpellsArgs items v) (says.Plain word ∷ ts)
   enclosed_back word items ts m =
       let l = left_back (items ++ it.Right ∷ []) ts m in
       let q = closed_back items l.0 l.2 in
       (q.0, (q.1.0, ap (λ us. says.Plain word ∷ us) (l.1 ∙ ap (λ us. says.Left ∷ us) q.1.1), q.1.2))
 
-  pub listed_back : (word : List ℕ) (items : List Item) (k : Kind) (ts : Text) → Means w (it.Left ∷ (items ++ it.Until k ∷ [])) ts → (v : Vals (items ++ it.Star k ∷ [])) × Compound word (SpellsArgs (items ++ it.Star k ∷ []) v) (says.Plain word ∷ ts)
+  pub listed_back : (word : List ℕ) (items : List Symbol) (k : Nonterminal) (ts : Text) → Means w (it.Left ∷ (items ++ it.Until k ∷ [])) ts → (v : Vals (items ++ it.Star k ∷ [])) × Compound word (SpellsArgs (items ++ it.Star k ∷ []) v) (says.Plain word ∷ ts)
   listed_back word items k ts m =
       let l = left_back (items ++ it.Until k ∷ []) ts m in
       let q = until_back items k l.0 l.2 in

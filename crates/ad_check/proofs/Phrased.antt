@@ -13,9 +13,9 @@ use Rattle.ad_tree.specs.declared.names.Individual.TheVariants as individuals
 use Rattle.ad_tree.specs.declared.literals.Literal.{Literal}
 use Rattle.ad_tree.specs.declared.literals.Literal.TheVariants as literals
 use Rattle.ad_tree.specs.declared.literals.Facet.{Facet}
-use Rattle.ad_tree.specs.declared.entities.EntityKind.{EntityKind}
-use Rattle.ad_tree.specs.declared.entities.EntityKind.TheVariants as kinds
-use Rattle.ad_tree.specs.declared.entities.Entity.{Entity}
+use Rattle.ad_entity.specs.declared.entities.EntityKind.{EntityKind}
+use Rattle.ad_entity.specs.declared.entities.EntityKind.TheVariants as kinds
+use Rattle.ad_entity.specs.declared.entities.Entity.{Entity}
 use Rattle.ad_tree.specs.declared.notes.Subject.{Subject}
 use Rattle.ad_tree.specs.declared.notes.Subject.TheVariants as subjects
 use Rattle.ad_tree.specs.declared.notes.Value.{Value}
@@ -29,10 +29,10 @@ use Rattle.ad_grammar.specs.Names.{Words, names, IsName, IsNumber, IsAnonymous, 
 use Rattle.ad_grammar.specs.Phrases.{Extra, SpellsRange, SpellsClass, SpellsAnnotation}
 use Rattle.ad_grammar.proofs.Equations as eq
 use Rattle.ad_grammar.proofs.Equations.{as_spelled}
-use Rattle.ad_check.specs.declared.items.Item.{Item}
-use Rattle.ad_check.specs.declared.items.Item.TheVariants as it
-use Rattle.ad_check.specs.declared.items.Kind.{Kind}
-use Rattle.ad_check.specs.declared.items.Kind.TheVariants as kind
+use Rattle.ad_check.specs.declared.items.Symbol.{Symbol}
+use Rattle.ad_check.specs.declared.items.Symbol.TheVariants as it
+use Rattle.ad_check.specs.declared.items.Nonterminal.{Nonterminal}
+use Rattle.ad_check.specs.declared.items.Nonterminal.TheVariants as kind
 use Rattle.ad_check.specs.Machine.{row, after, step, accepts, tail, named, labelled, quoted}
 use Rattle.ad_check.proofs.Numerals.{number_is}
 use Rattle.ad_check.proofs.Readings.{step_opens}
@@ -62,15 +62,15 @@ class_row w (says.Node label) = refl
 class_row w (says.Lang tag) = refl
 
 module _ (w : Bool) where
-  one_token : (k : Kind) (l : Lexeme) → row w k l ≡ Some [] → Takes w k (l ∷ [])
+  one_token : (k : Nonterminal) (l : Lexeme) → row w k l ≡ Some [] → Takes w k (l ∷ [])
   one_token k l h = record { taken = λ items b free. accepts_step w (it.One k ∷ items) items l b (step_opens w (it.One k) items [] l h) }
 
-  pub tail_over : (items : List Item) (b : Text) → first_tail b ≡ false → accepts w (it.Tail ∷ items) b ≡ accepts w items b
+  pub tail_over : (items : List Symbol) (b : Text) → first_tail b ≡ false → accepts w (it.Tail ∷ items) b ≡ accepts w items b
   tail_over items [] h = refl
   tail_over items (t ∷ b) h = accepts_same w (it.Tail ∷ items) items t b (ap (λ o. after it.Tail items o (step w items t)) (none_is (tail t) h))
 
   -- a list between parentheses, and then others
-  pub c_group : {X : Type 0} (k : Kind) (r : List Item) (spells : X → Text → Type 0) (xs : List X) (Q : Text → Type 0) → AllByRecursion (λ x. (ts : Text) → spells x ts → Takes w k ts) xs → ((inner : Text) → Q inner → Closes w r inner) → (inner : Text) → Then (Group (Many0 spells xs)) Q inner → Closes w (it.Left ∷ it.Until k ∷ r) inner
+  pub c_group : {X : Type 0} (k : Nonterminal) (r : List Symbol) (spells : X → Text → Type 0) (xs : List X) (Q : Text → Type 0) → AllByRecursion (λ x. (ts : Text) → spells x ts → Takes w k ts) xs → ((inner : Text) → Q inner → Closes w r inner) → (inner : Text) → Then (Group (Many0 spells xs)) Q inner → Closes w (it.Left ∷ it.Until k ∷ r) inner
   c_group k r spells xs Q each closes inner (a, q, e, (i, e', p), rest) = subst (Closes w (it.Left ∷ it.Until k ∷ r)) (sym (e ∙ ap (λ us. us ++ q) e')) (record {
     closed = λ items b.
         ap (accepts w (it.Until k ∷ (r ++ items))) (ap (λ us. us ++ says.Right ∷ b) (append_assoc i (says.Right ∷ []) q) ∙ append_assoc i (says.Right ∷ q) (says.Right ∷ b))
@@ -78,7 +78,7 @@ module _ (w : Bool) where
         ∙ (closes q rest).closed items b;
   })
 
-  pub c_group_last : {X : Type 0} (k : Kind) (spells : X → Text → Type 0) (xs : List X) → AllByRecursion (λ x. (ts : Text) → spells x ts → Takes w k ts) xs → (inner : Text) → Group (Many0 spells xs) inner → Closes w (it.Left ∷ it.Until k ∷ it.Right ∷ []) inner
+  pub c_group_last : {X : Type 0} (k : Nonterminal) (spells : X → Text → Type 0) (xs : List X) → AllByRecursion (λ x. (ts : Text) → spells x ts → Takes w k ts) xs → (inner : Text) → Group (Many0 spells xs) inner → Closes w (it.Left ∷ it.Until k ∷ it.Right ∷ []) inner
   c_group_last k spells xs each inner (i, e, p) = subst (Closes w (it.Left ∷ it.Until k ∷ it.Right ∷ [])) (sym e) (record {
     closed = λ items b.
         ap (accepts w (it.Until k ∷ it.Right ∷ items)) (append_assoc i (says.Right ∷ []) (says.Right ∷ b))
@@ -86,7 +86,7 @@ module _ (w : Bool) where
   })
 
   module _ (words : Words) where
-    name_row : (k : Kind) (o : Option (List Item)) → named k ≡ o → (l : Lexeme) (name : List ℕ) → names words l ≡ Some name → row w k l ≡ o
+    name_row : (k : Nonterminal) (o : Option (List Symbol)) → named k ≡ o → (l : Lexeme) (name : List ℕ) → names words l ≡ Some name → row w k l ≡ o
     name_row k o h says.Left name is = absurd (none_not_some name is)
     name_row k o h says.Right name is = absurd (none_not_some name is)
     name_row k o h says.Equals name is = absurd (none_not_some name is)
@@ -100,7 +100,7 @@ module _ (w : Bool) where
     name_row k o h (says.Node label) name is = absurd (none_not_some name is)
     name_row k o h (says.Lang tag) name is = absurd (none_not_some name is)
 
-    pub takes_name : (k : Kind) → named k ≡ Some [] → (name : List ℕ) (ts : Text) → IsName words name ts → Takes w k ts
+    pub takes_name : (k : Nonterminal) → named k ≡ Some [] → (name : List ℕ) (ts : Text) → IsName words name ts → Takes w k ts
     takes_name k h name ts (l, e, is) = subst (Takes w k) (sym e) (one_token k l (name_row k (Some []) h l name is))
 
     pub takes_number : (n : ℕ) (ts : Text) → IsNumber n ts → Takes w kind.Number ts
@@ -108,11 +108,11 @@ module _ (w : Bool) where
         let below : digits_value 10 digits < 4294967296 = omega (arith, value, small) in
         subst (Takes w kind.Number) (sym e) (one_token kind.Number (says.Plain digits) (rw (number_is digits numeral below) refl))
 
-    pub takes_anonymous : (k : Kind) → labelled k ≡ Some [] → (label : List ℕ) (ts : Text) → IsAnonymous label ts → Takes w k ts
+    pub takes_anonymous : (k : Nonterminal) → labelled k ≡ Some [] → (label : List ℕ) (ts : Text) → IsAnonymous label ts → Takes w k ts
     takes_anonymous k h [] ts (e, some) = absurd (some refl)
     takes_anonymous k h (b ∷ bs) ts (e, some) = subst (Takes w k) (sym e) (one_token k (says.Node (b ∷ bs)) h)
 
-    pub takes_literal : (k : Kind) → quoted k ≡ Some (it.Tail ∷ []) → (x : Literal) (ts : Text) → SpellsLiteral words x ts → Takes w k ts
+    pub takes_literal : (k : Nonterminal) → quoted k ≡ Some (it.Tail ∷ []) → (x : Literal) (ts : Text) → SpellsLiteral words x ts → Takes w k ts
     takes_literal k h (literals.Plain text) ts e = subst (Takes w k) (sym e) (record { taken = λ items b free. accepts_step w (it.One k ∷ items) (it.Tail ∷ items) (says.Text text) b (step_opens w (it.One k) items (it.Tail ∷ []) (says.Text text) h) ∙ tail_over items b free })
     takes_literal k h (literals.Lang text tag) ts e = subst (Takes w k) (sym e) (record { taken = λ items b free. accepts_step w (it.One k ∷ items) (it.Tail ∷ items) (says.Text text) (says.Lang tag ∷ b) (step_opens w (it.One k) items (it.Tail ∷ []) (says.Text text) h) })
     takes_literal k h (literals.Typed text datatype) ts (name, e, is) = subst (Takes w k) (sym e) (record { taken = λ items b free. accepts_step w (it.One k ∷ items) (it.Tail ∷ items) (says.Text text) (says.Carets ∷ (name ++ b)) (step_opens w (it.One k) items (it.Tail ∷ []) (says.Text text) h) ∙ (takes_name kind.Name refl datatype name is).taken items b free })

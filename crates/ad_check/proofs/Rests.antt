@@ -9,10 +9,10 @@ use Rattle.ad_lex.specs.Lexemes.{Lexeme}
 use Rattle.ad_lex.specs.Lexemes as says
 use Rattle.ad_write.specs.Keywords as kw
 use Rattle.ad_grammar.specs.Shapes.{Text}
-use Rattle.ad_check.specs.declared.items.Item.{Item}
-use Rattle.ad_check.specs.declared.items.Item.TheVariants as it
-use Rattle.ad_check.specs.declared.items.Kind.{Kind}
-use Rattle.ad_check.specs.declared.items.Kind.TheVariants as kind
+use Rattle.ad_check.specs.declared.items.Symbol.{Symbol}
+use Rattle.ad_check.specs.declared.items.Symbol.TheVariants as it
+use Rattle.ad_check.specs.declared.items.Nonterminal.{Nonterminal}
+use Rattle.ad_check.specs.declared.items.Nonterminal.TheVariants as kind
 use Rattle.ad_check.specs.Machine.{Entry, row, opens, skips, after, step, accepts, behind, lookup, table, counts, is_left, is_right, is_equals, is_full, is_label, tail, filler, end, any, until, import_rows, first_row, body, note_rows, named, labelled, quoted, signed}
 use Rattle.ad_check.proofs.Taken.{first_tail, none_is, none_not_some, accepts_same, accepts_step}
 use Rattle.ad_check.proofs.Phrased.{tail_over}
@@ -23,7 +23,7 @@ abbrev missing : Lexeme
 missing = says.Iri (codes "u:x")
 
 -- a shortest phrase of each kind
-abbrev pub phrase : Kind → Text
+abbrev pub phrase : Nonterminal → Text
 phrase kind.Name = missing ∷ []
 phrase kind.Number = says.Plain (codes "0") ∷ []
 phrase kind.Property = missing ∷ []
@@ -39,11 +39,11 @@ phrase kind.Value = missing ∷ []
 phrase kind.Entity = says.Plain kw.Class ∷ says.Left ∷ missing ∷ says.Right ∷ []
 phrase kind.Axiom = says.Plain kw.SubClassOf ∷ says.Left ∷ missing ∷ missing ∷ says.Right ∷ []
 phrase kind.Logical = says.Plain kw.SubClassOf ∷ says.Left ∷ missing ∷ missing ∷ says.Right ∷ []
-phrase kind.Prefix = says.Plain (codes "Prefix") ∷ says.Left ∷ says.Short [] [] ∷ says.Equals ∷ missing ∷ says.Right ∷ []
+phrase kind.Prefix = says.Plain kw.Prefix ∷ says.Left ∷ says.Short [] [] ∷ says.Equals ∷ missing ∷ says.Right ∷ []
 phrase kind.Signed = says.Plus ∷ says.Plain kw.SubClassOf ∷ says.Left ∷ missing ∷ missing ∷ says.Right ∷ []
 phrase kind.Ontology = says.Plain kw.Ontology ∷ says.Left ∷ says.Right ∷ []
 
-abbrev pub rest_of : Item → Text
+abbrev pub rest_of : Symbol → Text
 rest_of it.Left = says.Left ∷ []
 rest_of it.Right = says.Right ∷ []
 rest_of it.Equals = says.Equals ∷ []
@@ -59,22 +59,22 @@ rest_of (it.Star k) = []
 rest_of (it.Maybe k) = []
 rest_of (it.Until k) = says.Right ∷ []
 
-abbrev pub rests : List Item → Text
+abbrev pub rests : List Symbol → Text
 rests [] = []
 rests (item ∷ items) = rest_of item ++ rests items
 
 -- whether an item takes no token of the text's front
-abbrev pub shut_at : Item → Text → Bool
+abbrev pub shut_at : Symbol → Text → Bool
 shut_at item [] = true
 shut_at item (t ∷ ts) = not (is_some (opens false item t))
 
 -- the plain grammar reads no rule
-abbrev pub allowed : Bool → Item → Bool
+abbrev pub allowed : Bool → Symbol → Bool
 allowed w it.Any = w
 allowed w _ = true
 
 -- whether each item that may be absent is, in the rests
-abbrev pub well : Bool → List Item → Bool
+abbrev pub well : Bool → List Symbol → Bool
 well w [] = true
 well w (item ∷ items) = allowed w item && ((not (skips item) || shut_at item (rests items)) && well w items)
 
@@ -86,7 +86,7 @@ not_true : (b : Bool) → not b ≡ true → b ≡ false
 not_true true e = absurd (true≢false (sym e))
 not_true false e = refl
 
-phrase_free : (k : Kind) (b : Text) → first_tail (phrase k ++ b) ≡ false
+phrase_free : (k : Nonterminal) (b : Text) → first_tail (phrase k ++ b) ≡ false
 phrase_free kind.Name b = refl
 phrase_free kind.Number b = refl
 phrase_free kind.Property b = refl
@@ -106,7 +106,7 @@ phrase_free kind.Prefix b = refl
 phrase_free kind.Signed b = refl
 phrase_free kind.Ontology b = refl
 
-rests_free : (items : List Item) → first_tail (rests items) ≡ false
+rests_free : (items : List Symbol) → first_tail (rests items) ≡ false
 rests_free [] = refl
 rests_free (it.Left ∷ items) = refl
 rests_free (it.Right ∷ items) = refl
@@ -124,7 +124,7 @@ rests_free ((it.Maybe k) ∷ items) = rests_free items
 rests_free ((it.Until k) ∷ items) = refl
 
 -- an item that may be absent opens alike in both grammars
-pub skip_same : (w : Bool) (item : Item) (t : Lexeme) → skips item ≡ true → opens w item t ≡ opens false item t
+pub skip_same : (w : Bool) (item : Symbol) (t : Lexeme) → skips item ≡ true → opens w item t ≡ opens false item t
 skip_same w it.Left t h = absurd (true≢false (sym h))
 skip_same w it.Right t h = absurd (true≢false (sym h))
 skip_same w it.Equals t h = absurd (true≢false (sym h))
@@ -141,7 +141,7 @@ skip_same w (it.Maybe k) t h = refl
 skip_same w (it.Until k) t h = absurd (true≢false (sym h))
 
 module _ (w : Bool) where
-  phrase_over : (k : Kind) (items : List Item) (b : Text) → first_tail b ≡ false → accepts w (it.One k ∷ items) (phrase k ++ b) ≡ accepts w items b
+  phrase_over : (k : Nonterminal) (items : List Symbol) (b : Text) → first_tail b ≡ false → accepts w (it.One k ∷ items) (phrase k ++ b) ≡ accepts w items b
   phrase_over kind.Name items b free = refl
   phrase_over kind.Number items b free = refl
   phrase_over kind.Property items b free = refl
@@ -161,15 +161,15 @@ module _ (w : Bool) where
   phrase_over kind.Signed items b free = refl
   phrase_over kind.Ontology items b free = refl
 
-  skip_over : (item : Item) (items : List Item) (b : Text) → skips item ≡ true → shut_at item b ≡ true → accepts w (item ∷ items) b ≡ accepts w items b
+  skip_over : (item : Symbol) (items : List Symbol) (b : Text) → skips item ≡ true → shut_at item b ≡ true → accepts w (item ∷ items) b ≡ accepts w items b
   skip_over item items [] may h = rw may refl
   skip_over item items (t ∷ b) may h = accepts_same w (item ∷ items) items t b (ap (λ o. after item items o (step w items t)) (skip_same w item t may ∙ none_is (opens false item t) (not_true (is_some (opens false item t)) h)) ∙ rw may refl)
 
   -- the rests complete what was read
-  any_right : (items : List Item) → w ≡ true → step w (it.Any ∷ items) says.Right ≡ Some items
+  any_right : (items : List Symbol) → w ≡ true → step w (it.Any ∷ items) says.Right ≡ Some items
   any_right items e = subst (λ v. step v (it.Any ∷ items) says.Right ≡ Some items) (sym e) refl
 
-  pub completed : (items : List Item) → well w items ≡ true → accepts w items (rests items) ≡ true
+  pub completed : (items : List Symbol) → well w items ≡ true → accepts w items (rests items) ≡ true
   completed [] h = refl
   completed (it.Left ∷ items) h = completed items h
   completed (it.Right ∷ items) h = completed items h
@@ -188,17 +188,17 @@ module _ (w : Bool) where
 
 -- rows lead to lists that the rests complete
 abbrev EachWell : Bool → List Entry → Type 0
-EachWell w es = AllByRecursion (λ e. (items : List Item) → well w items ≡ true → well w (e.items ++ items) ≡ true) es
+EachWell w es = AllByRecursion (λ e. (items : List Symbol) → well w items ≡ true → well w (e.items ++ items) ≡ true) es
 
-lookup_well : (w : Bool) (es : List Entry) → EachWell w es → (word : List ℕ) (r : List Item) → lookup es word ≡ Some r → (items : List Item) → well w items ≡ true → well w (r ++ items) ≡ true
+lookup_well : (w : Bool) (es : List Entry) → EachWell w es → (word : List ℕ) (r : List Symbol) → lookup es word ≡ Some r → (items : List Symbol) → well w items ≡ true → well w (r ++ items) ≡ true
 lookup_well w [] each word r h items good = absurd (none_not_some r h)
 lookup_well w (e ∷ es) each word r h items good = by_word (lookup_well w es each.1 word r) (bytes_eq e.word word) refl
   where
-    by_word : (lookup es word ≡ Some r → (items : List Item) → well w items ≡ true → well w (r ++ items) ≡ true) → (b : Bool) → bytes_eq e.word word ≡ b → well w (r ++ items) ≡ true
+    by_word : (lookup es word ≡ Some r → (items : List Symbol) → well w items ≡ true → well w (r ++ items) ≡ true) → (b : Bool) → bytes_eq e.word word ≡ b → well w (r ++ items) ≡ true
     by_word later true is = subst (λ q. well w (q ++ items) ≡ true) (some_is e.items r (sym (rw is refl) ∙ h)) (each.0 items good)
     by_word later false is = later (sym (rw is refl) ∙ h) items good
 
-table_well : (v w : Bool) → (v ≡ true → w ≡ true) → (k : Kind) → EachWell w (table v k)
+table_well : (v w : Bool) → (v ≡ true → w ≡ true) → (k : Nonterminal) → EachWell w (table v k)
 table_well v w vw kind.Name = tt
 table_well v w vw kind.Number = tt
 table_well v w vw kind.Property = ((λ items h. h), tt)
@@ -222,17 +222,17 @@ table_well v w vw kind.Prefix = ((λ items h. h), tt)
 table_well v w vw kind.Signed = tt
 table_well v w vw kind.Ontology = ((λ items h. h), tt)
 
-written : (w : Bool) (x r items : List Item) → Some x ≡ Some r → well w (x ++ items) ≡ true → well w (r ++ items) ≡ true
+written : (w : Bool) (x r items : List Symbol) → Some x ≡ Some r → well w (x ++ items) ≡ true → well w (r ++ items) ≡ true
 written w x r items e h = subst (λ q. well w (q ++ items) ≡ true) (some_is x r e) h
 
-tail_well : (w : Bool) (items : List Item) → well w items ≡ true → well w (it.Tail ∷ items) ≡ true
+tail_well : (w : Bool) (items : List Symbol) → well w items ≡ true → well w (it.Tail ∷ items) ≡ true
 tail_well w items h = by_first (rests items) (rests_free items)
   where
     by_first : (b : Text) → first_tail b ≡ false → (shut_at it.Tail b && well w items) ≡ true
     by_first [] free = h
     by_first (t ∷ b) free = rw free h
 
-named_well : (w : Bool) (k : Kind) (r : List Item) → named k ≡ Some r → (items : List Item) → well w items ≡ true → well w (r ++ items) ≡ true
+named_well : (w : Bool) (k : Nonterminal) (r : List Symbol) → named k ≡ Some r → (items : List Symbol) → well w items ≡ true → well w (r ++ items) ≡ true
 named_well w kind.Name r h items good = written w [] r items h good
 named_well w kind.Number r h items good = absurd (none_not_some r h)
 named_well w kind.Property r h items good = written w [] r items h good
@@ -252,7 +252,7 @@ named_well w kind.Prefix r h items good = absurd (none_not_some r h)
 named_well w kind.Signed r h items good = absurd (none_not_some r h)
 named_well w kind.Ontology r h items good = absurd (none_not_some r h)
 
-labelled_well : (w : Bool) (k : Kind) (r : List Item) → labelled k ≡ Some r → (items : List Item) → well w items ≡ true → well w (r ++ items) ≡ true
+labelled_well : (w : Bool) (k : Nonterminal) (r : List Symbol) → labelled k ≡ Some r → (items : List Symbol) → well w items ≡ true → well w (r ++ items) ≡ true
 labelled_well w kind.Name r h items good = absurd (none_not_some r h)
 labelled_well w kind.Number r h items good = absurd (none_not_some r h)
 labelled_well w kind.Property r h items good = absurd (none_not_some r h)
@@ -272,7 +272,7 @@ labelled_well w kind.Prefix r h items good = absurd (none_not_some r h)
 labelled_well w kind.Signed r h items good = absurd (none_not_some r h)
 labelled_well w kind.Ontology r h items good = absurd (none_not_some r h)
 
-quoted_well : (w : Bool) (k : Kind) (r : List Item) → quoted k ≡ Some r → (items : List Item) → well w items ≡ true → well w (r ++ items) ≡ true
+quoted_well : (w : Bool) (k : Nonterminal) (r : List Symbol) → quoted k ≡ Some r → (items : List Symbol) → well w items ≡ true → well w (r ++ items) ≡ true
 quoted_well w kind.Name r h items good = absurd (none_not_some r h)
 quoted_well w kind.Number r h items good = absurd (none_not_some r h)
 quoted_well w kind.Property r h items good = absurd (none_not_some r h)
@@ -292,7 +292,7 @@ quoted_well w kind.Prefix r h items good = absurd (none_not_some r h)
 quoted_well w kind.Signed r h items good = absurd (none_not_some r h)
 quoted_well w kind.Ontology r h items good = absurd (none_not_some r h)
 
-signed_well : (w : Bool) (k : Kind) (r : List Item) → signed k ≡ Some r → (items : List Item) → well w items ≡ true → well w (r ++ items) ≡ true
+signed_well : (w : Bool) (k : Nonterminal) (r : List Symbol) → signed k ≡ Some r → (items : List Symbol) → well w items ≡ true → well w (r ++ items) ≡ true
 signed_well w kind.Name r h items good = absurd (none_not_some r h)
 signed_well w kind.Number r h items good = absurd (none_not_some r h)
 signed_well w kind.Property r h items good = absurd (none_not_some r h)
@@ -313,11 +313,11 @@ signed_well w kind.Signed r h items good = written w (it.One kind.Axiom ∷ []) 
 signed_well w kind.Ontology r h items good = absurd (none_not_some r h)
 
 module _ (v w : Bool) (vw : v ≡ true → w ≡ true) where
-  word_well : (k : Kind) (word : List ℕ) (b : Bool) (r : List Item) → (if b then Some [] else lookup (table v k) word) ≡ Some r → (items : List Item) → well w items ≡ true → well w (r ++ items) ≡ true
+  word_well : (k : Nonterminal) (word : List ℕ) (b : Bool) (r : List Symbol) → (if b then Some [] else lookup (table v k) word) ≡ Some r → (items : List Symbol) → well w items ≡ true → well w (r ++ items) ≡ true
   word_well k word true r h items good = written w [] r items h good
   word_well k word false r h items good = lookup_well w (table v k) (table_well v w vw k) word r h items good
 
-  row_well : (k : Kind) (t : Lexeme) (r : List Item) → row v k t ≡ Some r → (items : List Item) → well w items ≡ true → well w (r ++ items) ≡ true
+  row_well : (k : Nonterminal) (t : Lexeme) (r : List Symbol) → row v k t ≡ Some r → (items : List Symbol) → well w items ≡ true → well w (r ++ items) ≡ true
   row_well k says.Left r h items good = absurd (none_not_some r h)
   row_well k says.Right r h items good = absurd (none_not_some r h)
   row_well k says.Equals r h items good = absurd (none_not_some r h)
@@ -332,7 +332,7 @@ module _ (v w : Bool) (vw : v ≡ true → w ≡ true) where
   row_well k (says.Node (c ∷ cs)) r h items good = labelled_well w k r h items good
   row_well k (says.Lang tag) r h items good = absurd (none_not_some r h)
 
-  behind_well : (k : Kind) (t : Lexeme) (more r : List Item) → behind more (row v k t) ≡ Some r → (items : List Item) → well w (more ++ items) ≡ true → well w (r ++ items) ≡ true
+  behind_well : (k : Nonterminal) (t : Lexeme) (more r : List Symbol) → behind more (row v k t) ≡ Some r → (items : List Symbol) → well w (more ++ items) ≡ true → well w (r ++ items) ≡ true
   behind_well k t more r h items good =
       let b = behind_back more (row v k t) r h in
       subst (λ q. well w (q ++ items) ≡ true) b.2 (ap (well w) (append_assoc b.0 more items) ∙ row_well k t b.0 b.1 (more ++ items) good)
@@ -340,10 +340,10 @@ module _ (v w : Bool) (vw : v ≡ true → w ≡ true) where
 never : (w : Bool) → false ≡ true → w ≡ true
 never w e = absurd (true≢false (sym e))
 
-star_well : (w : Bool) (k : Kind) (t : Lexeme) (r : List Item) → behind (it.Star k ∷ []) (row false k t) ≡ Some r → (items : List Item) → well w (it.Star k ∷ items) ≡ true → well w (r ++ items) ≡ true
+star_well : (w : Bool) (k : Nonterminal) (t : Lexeme) (r : List Symbol) → behind (it.Star k ∷ []) (row false k t) ≡ Some r → (items : List Symbol) → well w (it.Star k ∷ items) ≡ true → well w (r ++ items) ≡ true
 star_well w k t r h items good = behind_well false w (never w) k t (it.Star k ∷ []) r h items good
 
-filler_well : (w : Bool) (t : Lexeme) (r : List Item) → filler t ≡ Some r → (items : List Item) → well w items ≡ true → well w (r ++ items) ≡ true
+filler_well : (w : Bool) (t : Lexeme) (r : List Symbol) → filler t ≡ Some r → (items : List Symbol) → well w items ≡ true → well w (r ++ items) ≡ true
 filler_well w says.Left r h items good = absurd (none_not_some r h)
 filler_well w says.Right r h items good = absurd (none_not_some r h)
 filler_well w says.Equals r h items good = absurd (none_not_some r h)
@@ -357,7 +357,7 @@ filler_well w (says.Short prefix local) r h items good = written w (it.End ∷ [
 filler_well w (says.Node label) r h items good = absurd (none_not_some r h)
 filler_well w (says.Lang tag) r h items good = absurd (none_not_some r h)
 
-end_well : (w : Bool) (t : Lexeme) (r : List Item) → end w t ≡ Some r → (items : List Item) → well w items ≡ true → well w (r ++ items) ≡ true
+end_well : (w : Bool) (t : Lexeme) (r : List Symbol) → end w t ≡ Some r → (items : List Symbol) → well w items ≡ true → well w (r ++ items) ≡ true
 end_well w says.Right r h items good = written w [] r items h good
 end_well true says.Left r h items good = filler_well true says.Left r h items good
 end_well false says.Left r h items good = absurd (none_not_some r h)
@@ -382,7 +382,7 @@ end_well false (says.Node label) r h items good = absurd (none_not_some r h)
 end_well true (says.Lang tag) r h items good = filler_well true (says.Lang tag) r h items good
 end_well false (says.Lang tag) r h items good = absurd (none_not_some r h)
 
-any_well : (w : Bool) (t : Lexeme) (r : List Item) → any w t ≡ Some r → (items : List Item) → well w items ≡ true → well w (r ++ items) ≡ true
+any_well : (w : Bool) (t : Lexeme) (r : List Symbol) → any w t ≡ Some r → (items : List Symbol) → well w items ≡ true → well w (r ++ items) ≡ true
 any_well false t r h items good = absurd (none_not_some r h)
 any_well true says.Left r h items good = written true (it.Any ∷ it.Any ∷ []) r items h good
 any_well true says.Right r h items good = written true [] r items h good
@@ -397,7 +397,7 @@ any_well true (says.Short prefix local) r h items good = written true (it.Any �
 any_well true (says.Node label) r h items good = written true (it.Any ∷ []) r items h good
 any_well true (says.Lang tag) r h items good = written true (it.Any ∷ []) r items h good
 
-until_well : (w : Bool) (k : Kind) (t : Lexeme) (r : List Item) → until w k t ≡ Some r → (items : List Item) → well w items ≡ true → well w (r ++ items) ≡ true
+until_well : (w : Bool) (k : Nonterminal) (t : Lexeme) (r : List Symbol) → until w k t ≡ Some r → (items : List Symbol) → well w items ≡ true → well w (r ++ items) ≡ true
 until_well w k says.Left r h items good = behind_well w w (λ e. e) k says.Left (it.Until k ∷ []) r h items good
 until_well w k says.Right r h items good = written w [] r items h good
 until_well w k says.Equals r h items good = behind_well w w (λ e. e) k says.Equals (it.Until k ∷ []) r h items good
@@ -411,14 +411,14 @@ until_well w k (says.Short prefix local) r h items good = behind_well w w (λ e.
 until_well w k (says.Node label) r h items good = behind_well w w (λ e. e) k (says.Node label) (it.Until k ∷ []) r h items good
 until_well w k (says.Lang tag) r h items good = behind_well w w (λ e. e) k (says.Lang tag) (it.Until k ∷ []) r h items good
 
-note_or_well : (w : Bool) (word : List ℕ) (o : Option (List Item)) → lookup note_rows word ≡ o → (r : List Item) → first_row (behind (it.Star kind.Note ∷ it.Until kind.Axiom ∷ []) o) (until w kind.Axiom (says.Plain word)) ≡ Some r → (items : List Item) → well w items ≡ true → well w (r ++ items) ≡ true
+note_or_well : (w : Bool) (word : List ℕ) (o : Option (List Symbol)) → lookup note_rows word ≡ o → (r : List Symbol) → first_row (behind (it.Star kind.Note ∷ it.Until kind.Axiom ∷ []) o) (until w kind.Axiom (says.Plain word)) ≡ Some r → (items : List Symbol) → well w items ≡ true → well w (r ++ items) ≡ true
 note_or_well w word None e r h items good = until_well w kind.Axiom (says.Plain word) r h items good
 note_or_well w word (Some x) e r h items good = subst (λ q. well w (q ++ items) ≡ true) (some_is (x ++ it.Star kind.Note ∷ it.Until kind.Axiom ∷ []) r h) (ap (well w) (append_assoc x (it.Star kind.Note ∷ it.Until kind.Axiom ∷ []) items) ∙ lookup_well w note_rows note_each word x e (it.Star kind.Note ∷ it.Until kind.Axiom ∷ items) good)
   where
     note_each : EachWell w note_rows
     note_each = ((λ items h. h), tt)
 
-import_or_well : (w : Bool) (word : List ℕ) (o : Option (List Item)) → lookup (import_rows w) word ≡ o → (r : List Item) → first_row o (first_row (behind (it.Star kind.Note ∷ it.Until kind.Axiom ∷ []) (lookup note_rows word)) (until w kind.Axiom (says.Plain word))) ≡ Some r → (items : List Item) → well w items ≡ true → well w (r ++ items) ≡ true
+import_or_well : (w : Bool) (word : List ℕ) (o : Option (List Symbol)) → lookup (import_rows w) word ≡ o → (r : List Symbol) → first_row o (first_row (behind (it.Star kind.Note ∷ it.Until kind.Axiom ∷ []) (lookup note_rows word)) (until w kind.Axiom (says.Plain word))) ≡ Some r → (items : List Symbol) → well w items ≡ true → well w (r ++ items) ≡ true
 import_or_well w word None e r h items good = note_or_well w word (lookup note_rows word) refl r h items good
 import_or_well w word (Some x) e r h items good = lookup_well w (import_rows w) (import_each w) word r (e ∙ h) items good
   where
@@ -426,7 +426,7 @@ import_or_well w word (Some x) e r h items good = lookup_well w (import_rows w) 
     import_each true = ((λ items h. h), tt)
     import_each false = tt
 
-body_well : (w : Bool) (t : Lexeme) (r : List Item) → body w t ≡ Some r → (items : List Item) → well w items ≡ true → well w (r ++ items) ≡ true
+body_well : (w : Bool) (t : Lexeme) (r : List Symbol) → body w t ≡ Some r → (items : List Symbol) → well w items ≡ true → well w (r ++ items) ≡ true
 body_well w says.Left r h items good = until_well w kind.Axiom says.Left r h items good
 body_well w says.Right r h items good = until_well w kind.Axiom says.Right r h items good
 body_well w says.Equals r h items good = until_well w kind.Axiom says.Equals r h items good
@@ -440,10 +440,10 @@ body_well w (says.Short prefix local) r h items good = until_well w kind.Axiom (
 body_well w (says.Node label) r h items good = until_well w kind.Axiom (says.Node label) r h items good
 body_well w (says.Lang tag) r h items good = until_well w kind.Axiom (says.Lang tag) r h items good
 
-sign_well : (w : Bool) (o : Option (List Item)) → ((r : List Item) → o ≡ Some r → r ≡ []) → (r : List Item) → o ≡ Some r → (items : List Item) → well w items ≡ true → well w (r ++ items) ≡ true
+sign_well : (w : Bool) (o : Option (List Symbol)) → ((r : List Symbol) → o ≡ Some r → r ≡ []) → (r : List Symbol) → o ≡ Some r → (items : List Symbol) → well w items ≡ true → well w (r ++ items) ≡ true
 sign_well w o alone r h items good = subst (λ q. well w (q ++ items) ≡ true) (sym (alone r h)) good
 
-left_alone : (t : Lexeme) (r : List Item) → is_left t ≡ Some r → r ≡ []
+left_alone : (t : Lexeme) (r : List Symbol) → is_left t ≡ Some r → r ≡ []
 left_alone says.Left r h = sym (some_is [] r h)
 left_alone says.Right r h = absurd (none_not_some r h)
 left_alone says.Equals r h = absurd (none_not_some r h)
@@ -457,7 +457,7 @@ left_alone (says.Short prefix local) r h = absurd (none_not_some r h)
 left_alone (says.Node label) r h = absurd (none_not_some r h)
 left_alone (says.Lang tag) r h = absurd (none_not_some r h)
 
-right_alone : (t : Lexeme) (r : List Item) → is_right t ≡ Some r → r ≡ []
+right_alone : (t : Lexeme) (r : List Symbol) → is_right t ≡ Some r → r ≡ []
 right_alone says.Left r h = absurd (none_not_some r h)
 right_alone says.Right r h = sym (some_is [] r h)
 right_alone says.Equals r h = absurd (none_not_some r h)
@@ -471,7 +471,7 @@ right_alone (says.Short prefix local) r h = absurd (none_not_some r h)
 right_alone (says.Node label) r h = absurd (none_not_some r h)
 right_alone (says.Lang tag) r h = absurd (none_not_some r h)
 
-equals_alone : (t : Lexeme) (r : List Item) → is_equals t ≡ Some r → r ≡ []
+equals_alone : (t : Lexeme) (r : List Symbol) → is_equals t ≡ Some r → r ≡ []
 equals_alone says.Left r h = absurd (none_not_some r h)
 equals_alone says.Right r h = absurd (none_not_some r h)
 equals_alone says.Equals r h = sym (some_is [] r h)
@@ -485,7 +485,7 @@ equals_alone (says.Short prefix local) r h = absurd (none_not_some r h)
 equals_alone (says.Node label) r h = absurd (none_not_some r h)
 equals_alone (says.Lang tag) r h = absurd (none_not_some r h)
 
-full_alone : (t : Lexeme) (r : List Item) → is_full t ≡ Some r → r ≡ []
+full_alone : (t : Lexeme) (r : List Symbol) → is_full t ≡ Some r → r ≡ []
 full_alone says.Left r h = absurd (none_not_some r h)
 full_alone says.Right r h = absurd (none_not_some r h)
 full_alone says.Equals r h = absurd (none_not_some r h)
@@ -499,7 +499,7 @@ full_alone (says.Short prefix local) r h = absurd (none_not_some r h)
 full_alone (says.Node label) r h = absurd (none_not_some r h)
 full_alone (says.Lang tag) r h = absurd (none_not_some r h)
 
-label_alone : (t : Lexeme) (r : List Item) → is_label t ≡ Some r → r ≡ []
+label_alone : (t : Lexeme) (r : List Symbol) → is_label t ≡ Some r → r ≡ []
 label_alone says.Left r h = absurd (none_not_some r h)
 label_alone says.Right r h = absurd (none_not_some r h)
 label_alone says.Equals r h = absurd (none_not_some r h)
@@ -514,7 +514,7 @@ label_alone (says.Short prefix (c ∷ cs)) r h = absurd (none_not_some r h)
 label_alone (says.Node label) r h = absurd (none_not_some r h)
 label_alone (says.Lang tag) r h = absurd (none_not_some r h)
 
-tail_row_well : (w : Bool) (t : Lexeme) (r : List Item) → tail t ≡ Some r → (items : List Item) → well w items ≡ true → well w (r ++ items) ≡ true
+tail_row_well : (w : Bool) (t : Lexeme) (r : List Symbol) → tail t ≡ Some r → (items : List Symbol) → well w items ≡ true → well w (r ++ items) ≡ true
 tail_row_well w says.Left r h items good = absurd (none_not_some r h)
 tail_row_well w says.Right r h items good = absurd (none_not_some r h)
 tail_row_well w says.Equals r h items good = absurd (none_not_some r h)
@@ -528,7 +528,7 @@ tail_row_well w (says.Short prefix local) r h items good = absurd (none_not_some
 tail_row_well w (says.Node label) r h items good = absurd (none_not_some r h)
 tail_row_well w (says.Lang tag) r h items good = written w [] r items h good
 
-opens_well : (w : Bool) (item : Item) (t : Lexeme) (r : List Item) → opens w item t ≡ Some r → (items : List Item) → well w (item ∷ items) ≡ true → well w (r ++ items) ≡ true
+opens_well : (w : Bool) (item : Symbol) (t : Lexeme) (r : List Symbol) → opens w item t ≡ Some r → (items : List Symbol) → well w (item ∷ items) ≡ true → well w (r ++ items) ≡ true
 opens_well w it.Left t r h items good = sign_well w (is_left t) (left_alone t) r h items good
 opens_well w it.Right t r h items good = sign_well w (is_right t) (right_alone t) r h items good
 opens_well w it.Equals t r h items good = sign_well w (is_equals t) (equals_alone t) r h items good
@@ -545,17 +545,17 @@ opens_well w (it.Maybe k) t r h items good = row_well false w (never w) k t r h 
 opens_well w (it.Until k) t r h items good = until_well w k t r h items good
 
 -- each step leads to a list that the rests complete
-pub step_well : (w : Bool) (items : List Item) (t : Lexeme) (next : List Item) → step w items t ≡ Some next → well w items ≡ true → well w next ≡ true
+pub step_well : (w : Bool) (items : List Symbol) (t : Lexeme) (next : List Symbol) → step w items t ≡ Some next → well w items ≡ true → well w next ≡ true
 step_well w [] t next h good = absurd (none_not_some next h)
 step_well w (item ∷ items) t next h good = by_opens (opens w item t) refl (skips item) refl (step_well w items t next) h
   where
-    by_opens : (o : Option (List Item)) → opens w item t ≡ o → (s : Bool) → skips item ≡ s → (step w items t ≡ Some next → well w items ≡ true → well w next ≡ true) → after item items o (step w items t) ≡ Some next → well w next ≡ true
+    by_opens : (o : Option (List Symbol)) → opens w item t ≡ o → (s : Bool) → skips item ≡ s → (step w items t ≡ Some next → well w items ≡ true → well w next ≡ true) → after item items o (step w items t) ≡ Some next → well w next ≡ true
     by_opens (Some x) e s e' later h' = subst (λ q. well w q ≡ true) (some_is (x ++ items) next h') (opens_well w item t x e items good)
     by_opens None e true e' later h' = later (sym (rw e' refl) ∙ h') (both (not (skips item) || shut_at item (rests items)) (well w items) (both (allowed w item) ((not (skips item) || shut_at item (rests items)) && well w items) good).1).1
     by_opens None e false e' later h' = absurd (none_not_some next (sym (rw e' refl) ∙ h'))
 
 -- what the rests complete in the plain grammar, they complete in the wide one
-pub well_wider : (items : List Item) → well false items ≡ true → well true items ≡ true
+pub well_wider : (items : List Symbol) → well false items ≡ true → well true items ≡ true
 well_wider [] h = refl
 well_wider (it.Left ∷ items) h = well_wider items h
 well_wider (it.Right ∷ items) h = well_wider items h

@@ -9,7 +9,7 @@ use Rattle.ad_lex.specs.Lexemes as says
 use Rattle.ad_write.specs.Keywords as kw
 use Rattle.ad_tree.specs.declared.names.ObjProp.{ObjProp}
 use Rattle.ad_tree.specs.declared.names.ObjProp.TheVariants as props
-use Rattle.ad_tree.specs.declared.entities.EntityKind.TheVariants as kinds
+use Rattle.ad_entity.specs.declared.entities.EntityKind.TheVariants as kinds
 use Rattle.ad_tree.specs.declared.notes.Annotation.{Annotation}
 use Rattle.ad_tree.specs.declared.notes.Annotation.TheViews.{roll-Annotation}
 use Rattle.ad_tree.specs.declared.ranges.Range.{Range}
@@ -23,10 +23,10 @@ use Rattle.ad_grammar.specs.Texts.{IsHead}
 use Rattle.ad_grammar.specs.Faults.{Statement, stated, rule, SpellsStatement, IsLogicalStatement}
 use Rattle.ad_grammar.proofs.Equations as eq
 use Rattle.ad_grammar.proofs.Equations.{as_spelled}
-use Rattle.ad_check.specs.declared.items.Item.{Item}
-use Rattle.ad_check.specs.declared.items.Item.TheVariants as it
-use Rattle.ad_check.specs.declared.items.Kind.{Kind}
-use Rattle.ad_check.specs.declared.items.Kind.TheVariants as kind
+use Rattle.ad_check.specs.declared.items.Symbol.{Symbol}
+use Rattle.ad_check.specs.declared.items.Symbol.TheVariants as it
+use Rattle.ad_check.specs.declared.items.Nonterminal.{Nonterminal}
+use Rattle.ad_check.specs.declared.items.Nonterminal.TheVariants as kind
 use Rattle.ad_check.specs.Machine.{Entry, lookup, rules_in, property_rows, chain_rows, range_rows, class_rows, note_rows, entity_rows, logical_rows, carried_rows, prefix_rows, ontology_rows}
 use Rattle.ad_check.proofs.Taken.{none_not_some}
 use Rattle.ad_check.proofs.Meant.{every, Val, SpellsKind, SpellsLink, Meaning, Means, means_one, some_is, left_back, enclosed_back, listed_back}
@@ -35,7 +35,7 @@ use Rattle.ad_check.proofs.Meant.{every, Val, SpellsKind, SpellsLink, Meaning, M
 abbrev pub EachRow : Bool → (Text → Type 0) → List Entry → Type 0
 EachRow w P es = AllByRecursion (λ e. (a : Text) → Means w e.items a → P (says.Plain e.word ∷ a)) es
 
-pub row_back : (w : Bool) (P : Text → Type 0) (es : List Entry) → EachRow w P es → (word : List ℕ) (items : List Item) → lookup es word ≡ Some items → (a : Text) → Means w items a → P (says.Plain word ∷ a)
+pub row_back : (w : Bool) (P : Text → Type 0) (es : List Entry) → EachRow w P es → (word : List ℕ) (items : List Symbol) → lookup es word ≡ Some items → (a : Text) → Means w items a → P (says.Plain word ∷ a)
 row_back w P [] each word items h a m = absurd (none_not_some items h)
 row_back w P (e ∷ es) each word items h a m = by_word (row_back w P es each.1 word items) (bytes_eq e.word word) refl
   where
@@ -55,7 +55,7 @@ each_weaker w P Q (x ∷ xs) f each = ((λ a m. f (says.Plain x.word ∷ a) (eac
 abbrev pub IsLogicalText : Bool → Text → Type 0
 IsLogicalText w ts = (s : Statement) × IsLogicalStatement s × SpellsStatement w every s ts
 
-abbrev pub IsKind : Bool → Kind → Text → Type 0
+abbrev pub IsKind : Bool → Nonterminal → Text → Type 0
 IsKind w k ts = (v : Val k) × SpellsKind w k v ts
 
 module _ (w : Bool) where
@@ -171,7 +171,7 @@ module _ (w : Bool) where
       by_link (inr chain) notes p h = (stated (record { notes = notes; «axiom» = axioms.SubObjectPropertyChainOf chain p }), refl, h)
 
   -- a list between parentheses
-  pub record Grouped (k : Kind) (items : List Item) (ts : Text) : Type 0 where
+  pub record Grouped (k : Nonterminal) (items : List Symbol) (ts : Text) : Type 0 where
     pub vs : List (Val k)
     pub group : Text
     pub rest : Text
@@ -179,7 +179,7 @@ module _ (w : Bool) where
     pub spelled : Group (Many0 (SpellsKind w k) vs) group
     pub others : Means w items rest
 
-  group_back : (k : Kind) (items : List Item) (ts : Text) → Means w (it.Left ∷ it.Until k ∷ items) ts → Grouped k items ts
+  group_back : (k : Nonterminal) (items : List Symbol) (ts : Text) → Means w (it.Left ∷ it.Until k ∷ items) ts → Grouped k items ts
   group_back k items ts (a, b, e, l, (x, y, e', (inner, e'', (vs, h)), m)) = record {
     vs = vs;
     group = says.Left ∷ (inner ++ says.Right ∷ []);
@@ -312,8 +312,8 @@ module _ (w : Bool) where
   pub prefix_each : EachRow w (IsKind w kind.Prefix) prefix_rows
   prefix_each = ((λ a m. prefix_back a m), tt)
     where
-      prefix_back : (a : Text) → Means w (it.Left ∷ it.Label ∷ it.Equals ∷ it.Full ∷ it.Right ∷ []) a → IsKind w kind.Prefix (says.Plain (codes "Prefix") ∷ a)
-      prefix_back a (a1, b1, e1, l1, (a2, b2, e2, (p, l2), (a3, b3, e3, l3, (a4, b4, e4, (i, l4), m5)))) = (record { prefix = p; iri = i }, ap (λ us. says.Plain (codes "Prefix") ∷ us) (e1 ∙ ap (λ us. us ++ b1) l1 ∙ ap (λ us. says.Left ∷ us) (e2 ∙ ap (λ us. us ++ b2) l2 ∙ ap (λ us. says.Short p [] ∷ us) (e3 ∙ ap (λ us. us ++ b3) l3 ∙ ap (λ us. says.Equals ∷ us) (e4 ∙ ap (λ us. us ++ b4) l4 ∙ ap (λ us. says.Iri i ∷ us) (means_one w it.Right b4 m5))))))
+      prefix_back : (a : Text) → Means w (it.Left ∷ it.Label ∷ it.Equals ∷ it.Full ∷ it.Right ∷ []) a → IsKind w kind.Prefix (says.Plain kw.Prefix ∷ a)
+      prefix_back a (a1, b1, e1, l1, (a2, b2, e2, (p, l2), (a3, b3, e3, l3, (a4, b4, e4, (i, l4), m5)))) = (record { prefix = p; iri = i }, ap (λ us. says.Plain kw.Prefix ∷ us) (e1 ∙ ap (λ us. us ++ b1) l1 ∙ ap (λ us. says.Left ∷ us) (e2 ∙ ap (λ us. us ++ b2) l2 ∙ ap (λ us. says.Short p [] ∷ us) (e3 ∙ ap (λ us. us ++ b3) l3 ∙ ap (λ us. says.Equals ∷ us) (e4 ∙ ap (λ us. us ++ b4) l4 ∙ ap (λ us. says.Iri i ∷ us) (means_one w it.Right b4 m5))))))
 
   heads : (x1 x2 : Text) → Meaning w (it.Maybe kind.Name) x1 → Meaning w (it.Maybe kind.Name) x2 → IsHead every (x1 ++ x2)
   heads x1 x2 (None, h1) (None, h2) = ([], omega arith, ap (λ us. us ++ x2) h1 ∙ h2)
@@ -332,9 +332,9 @@ module _ (w : Bool) where
 pub rule_each : (w : Bool) → EachRow w (IsLogicalText w) (rules_in w)
 rule_each true = ((λ a m. rule_back a m), tt)
   where
-    rule_back : (a : Text) → Means true (it.Left ∷ it.Any ∷ []) a → IsLogicalText true (says.Plain (codes "DLSafeRule") ∷ a)
+    rule_back : (a : Text) → Means true (it.Left ∷ it.Any ∷ []) a → IsLogicalText true (says.Plain kw.DLSafeRule ∷ a)
     rule_back a m =
         let l = left_back true (it.Any ∷ []) a m in
         let q = means_one true it.Any l.0 l.2 in
-        (rule, tt, (q.0, ap (λ us. says.Plain (codes "DLSafeRule") ∷ us) (l.1 ∙ ap (λ us. says.Left ∷ us) q.1), q.2))
+        (rule, tt, (q.0, ap (λ us. says.Plain kw.DLSafeRule ∷ us) (l.1 ∙ ap (λ us. says.Left ∷ us) q.1), q.2))
 rule_each false = tt

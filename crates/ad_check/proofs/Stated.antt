@@ -3,13 +3,13 @@ use Rattle.std.proofs.Common.{◌≡◌, ℕ, Bool, true, false, List, [], ◌�
 use Rattle.std.proofs.lemmas.Bool.{true≢false}
 use Rattle.ad_lex.specs.Lexemes as says
 use Rattle.ad_write.specs.Keywords as kw
-use Rattle.ad_tree.specs.Signature.{is_logical}
+use Rattle.ad_tree.specs.Logical.{is_logical}
 use Rattle.ad_tree.specs.declared.classes.Class.{Class}
 use Rattle.ad_tree.specs.declared.ranges.Range.{Range}
 use Rattle.ad_tree.specs.declared.names.ObjProp.{ObjProp}
 use Rattle.ad_tree.specs.declared.names.Individual.{Individual}
 use Rattle.ad_tree.specs.declared.literals.Literal.{Literal}
-use Rattle.ad_tree.specs.declared.entities.Entity.{Entity}
+use Rattle.ad_entity.specs.declared.entities.Entity.{Entity}
 use Rattle.ad_tree.specs.declared.notes.Subject.{Subject}
 use Rattle.ad_tree.specs.declared.notes.Value.{Value}
 use Rattle.ad_tree.specs.declared.notes.Annotation.{Annotation}
@@ -19,20 +19,20 @@ use Rattle.ad_grammar.specs.Shapes.{Text, Then, Group, Compound, Many0, Many1}
 use Rattle.ad_grammar.specs.Names.{Words, IsName, SpellsProperty, SpellsIndividual, SpellsLiteral, SpellsSubject, SpellsValue, SpellsEntity}
 use Rattle.ad_grammar.specs.Phrases.{SpellsRange, SpellsClass, SpellsAnnotation}
 use Rattle.ad_grammar.specs.Axioms.{SpellsAxiom}
-use Rattle.ad_check.specs.declared.items.Item.{Item}
-use Rattle.ad_check.specs.declared.items.Item.TheVariants as it
-use Rattle.ad_check.specs.declared.items.Kind.{Kind}
-use Rattle.ad_check.specs.declared.items.Kind.TheVariants as kind
+use Rattle.ad_check.specs.declared.items.Symbol.{Symbol}
+use Rattle.ad_check.specs.declared.items.Symbol.TheVariants as it
+use Rattle.ad_check.specs.declared.items.Nonterminal.{Nonterminal}
+use Rattle.ad_check.specs.declared.items.Nonterminal.TheVariants as kind
 use Rattle.ad_check.specs.Machine.{row, lookup, logical_rows, named, quoted}
 use Rattle.ad_check.proofs.Taken.{Takes, compound, c_last, c_one, c_some, c_notes}
 use Rattle.ad_check.proofs.Phrased as p
 use Rattle.ad_check.proofs.Phrased.{all_each, c_group, c_group_last}
 
 module _ (w : Bool) (words : Words) where
-  takes_name : (k : Kind) → named k ≡ Some [] → (name : List ℕ) (ts : Text) → IsName words name ts → Takes w k ts
+  takes_name : (k : Nonterminal) → named k ≡ Some [] → (name : List ℕ) (ts : Text) → IsName words name ts → Takes w k ts
   takes_name = p.takes_name w words
 
-  takes_literal : (k : Kind) → quoted k ≡ Some (it.Tail ∷ []) → (x : Literal) (ts : Text) → SpellsLiteral words x ts → Takes w k ts
+  takes_literal : (k : Nonterminal) → quoted k ≡ Some (it.Tail ∷ []) → (x : Literal) (ts : Text) → SpellsLiteral words x ts → Takes w k ts
   takes_literal = p.takes_literal w words
 
   takes_individual : (x : Individual) (ts : Text) → SpellsIndividual words x ts → Takes w kind.Individual ts
@@ -65,7 +65,7 @@ module _ (w : Bool) (words : Words) where
   takes_note : (x : Annotation) (ts : Text) → SpellsAnnotation words x ts → Takes w kind.Note ts
   takes_note = p.takes_note w words
 
-  module _ (notes : List Annotation) (k : Kind) (rows : (word : List ℕ) (r : List Item) → lookup logical_rows word ≡ Some r → row w k (says.Plain word) ≡ Some r) where
+  module _ (notes : List Annotation) (k : Nonterminal) (rows : (word : List ℕ) (r : List Symbol) → lookup logical_rows word ≡ Some r → row w k (says.Plain word) ≡ Some r) where
     pub takes_logical : (x : Axiom) → is_logical x ≡ true → (ts : Text) → SpellsAxiom w words (Many0 (SpellsAnnotation words) notes) x ts → Takes w k ts
     takes_logical (axioms.SubClassOf sub super) logical ts h = compound w k kw.SubClassOf (it.Star kind.Note ∷ it.One kind.Class ∷ it.One kind.Class ∷ it.Right ∷ []) (Then (Many0 (SpellsAnnotation words) notes) (Then (SpellsClass w words sub) (SpellsClass w words super))) (rows kw.SubClassOf _ refl) (c_notes w (SpellsAnnotation words) notes (it.One kind.Class ∷ it.One kind.Class ∷ it.Right ∷ []) (Then (SpellsClass w words sub) (SpellsClass w words super)) refl (λ items. refl) (all_each _ takes_note notes) (c_one w kind.Class (it.One kind.Class ∷ it.Right ∷ []) (SpellsClass w words sub) (SpellsClass w words super) refl (takes_class sub) (c_last w kind.Class (SpellsClass w words super) (takes_class super)))) ts h
     takes_logical (axioms.EquivalentClasses classes) logical ts h = compound w k kw.EquivalentClasses (it.Star kind.Note ∷ it.One kind.Class ∷ it.Until kind.Class ∷ []) (Then (Many0 (SpellsAnnotation words) notes) (Many1 (SpellsClass w words) classes)) (rows kw.EquivalentClasses _ refl) (c_notes w (SpellsAnnotation words) notes (it.One kind.Class ∷ it.Until kind.Class ∷ []) (Many1 (SpellsClass w words) classes) refl (λ items. refl) (all_each _ takes_note notes) (c_some w kind.Class (SpellsClass w words) classes (all_each _ takes_class classes))) ts h

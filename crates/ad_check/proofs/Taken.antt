@@ -11,10 +11,10 @@ use Rattle.ad_write.specs.Keywords as kw
 use Rattle.ad_grammar.specs.Shapes.{Text, Then, Compound, Many0, Many1, Optional}
 use Rattle.ad_grammar.specs.Names.{Words, names, IsName}
 use Rattle.ad_grammar.specs.Phrases.{Extra}
-use Rattle.ad_check.specs.declared.items.Item.{Item}
-use Rattle.ad_check.specs.declared.items.Item.TheVariants as it
-use Rattle.ad_check.specs.declared.items.Kind.{Kind}
-use Rattle.ad_check.specs.declared.items.Kind.TheVariants as kind
+use Rattle.ad_check.specs.declared.items.Symbol.{Symbol}
+use Rattle.ad_check.specs.declared.items.Symbol.TheVariants as it
+use Rattle.ad_check.specs.declared.items.Nonterminal.{Nonterminal}
+use Rattle.ad_check.specs.declared.items.Nonterminal.TheVariants as kind
 use Rattle.ad_check.specs.Machine.{row, after, step, goes, accepts, behind, is_right, is_name, tail}
 use Rattle.ad_check.proofs.Readings.{step_opens, until_same}
 use Rattle.ad_check.proofs.Single.{filler_name, filler_same}
@@ -30,7 +30,7 @@ first_note [] = false
 first_note (t ∷ ts) = is_some (row false kind.Note t)
 
 -- no list of these items begins with the tail of a literal
-abbrev pub no_tail : List Item → Bool
+abbrev pub no_tail : List Symbol → Bool
 no_tail [] = false
 no_tail (it.Tail ∷ r) = false
 no_tail (it.End ∷ r) = false
@@ -69,7 +69,7 @@ note_word (says.Node []) h = absurd (true≢false (sym h))
 note_word (says.Node (c ∷ cs)) h = absurd (true≢false (sym h))
 note_word (says.Lang tag) h = absurd (true≢false (sym h))
 
-pub not_right : (w : Bool) (k : Kind) (t : Lexeme) (r : List Item) → row w k t ≡ Some r → is_right t ≡ None
+pub not_right : (w : Bool) (k : Nonterminal) (t : Lexeme) (r : List Symbol) → row w k t ≡ Some r → is_right t ≡ None
 not_right w k says.Left r h = refl
 not_right w k says.Right r h = absurd (none_not_some r h)
 not_right w k says.Equals r h = refl
@@ -113,39 +113,39 @@ is_a_name words (says.Lang tag) n h = absurd (none_not_some n h)
 
 module _ (w : Bool) where
   -- a phrase of this kind, which is taken off whatever stands behind it but for the tail of a literal
-  pub record Takes (k : Kind) (a : Text) : Type 0 where
-    pub taken : (items : List Item) (b : Text) → first_tail b ≡ false → accepts w (it.One k ∷ items) (a ++ b) ≡ accepts w items b
+  pub record Takes (k : Nonterminal) (a : Text) : Type 0 where
+    pub taken : (items : List Symbol) (b : Text) → first_tail b ≡ false → accepts w (it.One k ∷ items) (a ++ b) ≡ accepts w items b
 
   -- what stands before a closing parenthesis
-  pub record Closes (r : List Item) (inner : Text) : Type 0 where
-    pub closed : (items : List Item) (b : Text) → accepts w (r ++ items) (inner ++ says.Right ∷ b) ≡ accepts w items b
+  pub record Closes (r : List Symbol) (inner : Text) : Type 0 where
+    pub closed : (items : List Symbol) (b : Text) → accepts w (r ++ items) (inner ++ says.Right ∷ b) ≡ accepts w items b
 
-  pub accepts_step : (items next : List Item) (t : Lexeme) (ts : Text) → step w items t ≡ Some next → accepts w items (t ∷ ts) ≡ accepts w next ts
+  pub accepts_step : (items next : List Symbol) (t : Lexeme) (ts : Text) → step w items t ≡ Some next → accepts w items (t ∷ ts) ≡ accepts w next ts
   accepts_step items next t ts h = ap (goes (λ m. accepts w m ts)) h
 
-  pub accepts_none : (items : List Item) (t : Lexeme) (ts : Text) → step w items t ≡ None → accepts w items (t ∷ ts) ≡ false
+  pub accepts_none : (items : List Symbol) (t : Lexeme) (ts : Text) → step w items t ≡ None → accepts w items (t ∷ ts) ≡ false
   accepts_none items t ts h = ap (goes (λ m. accepts w m ts)) h
 
-  pub accepts_same : (items others : List Item) (t : Lexeme) (ts : Text) → step w items t ≡ step w others t → accepts w items (t ∷ ts) ≡ accepts w others (t ∷ ts)
+  pub accepts_same : (items others : List Symbol) (t : Lexeme) (ts : Text) → step w items t ≡ step w others t → accepts w items (t ∷ ts) ≡ accepts w others (t ∷ ts)
   accepts_same items others t ts h = ap (goes (λ m. accepts w m ts)) h
 
   -- how a phrase begins
-  pub record First (k : Kind) (a : Text) : Type 0 where
+  pub record First (k : Nonterminal) (a : Text) : Type 0 where
     pub token : Lexeme
     pub rest : Text
     pub is : a ≡ token ∷ rest
-    pub items : List Item
+    pub items : List Symbol
     pub begins : row w k token ≡ Some items
 
-  pub takes_first : (k : Kind) (a : Text) → Takes k a → First k a
+  pub takes_first : (k : Nonterminal) (a : Text) → Takes k a → First k a
   takes_first k [] p = absurd (true≢false (sym (p.taken [] [] refl)))
   takes_first k (t ∷ rest) p = by_row (row w k t) refl
     where
-      by_row : (o : Option (List Item)) → row w k t ≡ o → First k (t ∷ rest)
+      by_row : (o : Option (List Symbol)) → row w k t ≡ o → First k (t ∷ rest)
       by_row None e = absurd (true≢false (sym (p.taken [] [] refl) ∙ accepts_none (it.One k ∷ []) t (rest ++ []) (ap (λ o. after (it.One k) [] o None) e)))
       by_row (Some r) e = record { token = t; rest = rest; is = refl; items = r; begins = e }
 
-  shut_lang : (r : List Item) → no_tail r ≡ true → (tag : List ℕ) (items : List Item) → step w (r ++ items) (says.Lang tag) ≡ None
+  shut_lang : (r : List Symbol) → no_tail r ≡ true → (tag : List ℕ) (items : List Symbol) → step w (r ++ items) (says.Lang tag) ≡ None
   shut_lang [] h tag items = absurd (true≢false (sym h))
   shut_lang (it.Left ∷ r) h tag items = refl
   shut_lang (it.Right ∷ r) h tag items = refl
@@ -162,7 +162,7 @@ module _ (w : Bool) where
   shut_lang (it.Maybe k ∷ r) h tag items = shut_lang r h tag items
   shut_lang (it.Until k ∷ r) h tag items = refl
 
-  shut_carets : (r : List Item) → no_tail r ≡ true → (items : List Item) → step w (r ++ items) says.Carets ≡ None
+  shut_carets : (r : List Symbol) → no_tail r ≡ true → (items : List Symbol) → step w (r ++ items) says.Carets ≡ None
   shut_carets [] h items = absurd (true≢false (sym h))
   shut_carets (it.Left ∷ r) h items = refl
   shut_carets (it.Right ∷ r) h items = refl
@@ -179,7 +179,7 @@ module _ (w : Bool) where
   shut_carets (it.Maybe k ∷ r) h items = shut_carets r h items
   shut_carets (it.Until k ∷ r) h items = refl
 
-  pub shut : (r : List Item) → no_tail r ≡ true → (t : Lexeme) → is_some (tail t) ≡ true → (items : List Item) → step w (r ++ items) t ≡ None
+  pub shut : (r : List Symbol) → no_tail r ≡ true → (t : Lexeme) → is_some (tail t) ≡ true → (items : List Symbol) → step w (r ++ items) t ≡ None
   shut r h says.Carets e items = shut_carets r h items
   shut r h (says.Lang tag) e items = shut_lang r h tag items
   shut r h says.Left e items = absurd (true≢false (sym e))
@@ -194,19 +194,19 @@ module _ (w : Bool) where
   shut r h (says.Node label) e items = absurd (true≢false (sym e))
 
   -- what is closed doesn't begin with a tail, nor, where no annotation may stand, with one
-  free_closes : (r : List Item) (inner : Text) → no_tail r ≡ true → Closes r inner → (b : Text) → first_tail (inner ++ says.Right ∷ b) ≡ false
+  free_closes : (r : List Symbol) (inner : Text) → no_tail r ≡ true → Closes r inner → (b : Text) → first_tail (inner ++ says.Right ∷ b) ≡ false
   free_closes r [] h p b = refl
   free_closes r (t ∷ q) h p b = false_by (is_some (tail t)) (λ e. true≢false (sym (p.closed [] []) ∙ accepts_none (r ++ []) t (q ++ says.Right ∷ []) (shut r h t e [])))
 
-  abbrev pub Unnoted : List Item → Type 0
-  Unnoted r = (items : List Item) → step w (r ++ items) (says.Plain kw.Annotation) ≡ None
+  abbrev pub Unnoted : List Symbol → Type 0
+  Unnoted r = (items : List Symbol) → step w (r ++ items) (says.Plain kw.Annotation) ≡ None
 
-  free_notes : (r : List Item) (inner : Text) → Unnoted r → Closes r inner → (b : Text) → first_note (inner ++ says.Right ∷ b) ≡ false
+  free_notes : (r : List Symbol) (inner : Text) → Unnoted r → Closes r inner → (b : Text) → first_note (inner ++ says.Right ∷ b) ≡ false
   free_notes r [] h p b = refl
   free_notes r (t ∷ q) h p b = false_by (is_some (row false kind.Note t)) (λ e. true≢false (sym (p.closed [] []) ∙ accepts_none (r ++ []) t (q ++ says.Right ∷ []) (subst (λ u. step w (r ++ []) u ≡ None) (sym (note_word t e)) (h []))))
 
   -- a keyword, and its arguments between parentheses
-  pub compound : (k : Kind) (word : List ℕ) (r : List Item) (arguments : Text → Type 0) → row w k (says.Plain word) ≡ Some (it.Left ∷ r) → ((inner : Text) → arguments inner → Closes r inner) → (ts : Text) → Compound word arguments ts → Takes k ts
+  pub compound : (k : Nonterminal) (word : List ℕ) (r : List Symbol) (arguments : Text → Type 0) → row w k (says.Plain word) ≡ Some (it.Left ∷ r) → ((inner : Text) → arguments inner → Closes r inner) → (ts : Text) → Compound word arguments ts → Takes k ts
   compound k word r arguments h closes ts (inner, e, args) = subst (Takes k) (sym e) (record {
     taken = λ items b free.
         accepts_step (it.One k ∷ items) (it.Left ∷ (r ++ items)) (says.Plain word) (says.Left ∷ ((inner ++ says.Right ∷ []) ++ b)) (step_opens w (it.One k) items (it.Left ∷ r) (says.Plain word) h)
@@ -215,11 +215,11 @@ module _ (w : Bool) where
   })
 
   -- the last argument
-  pub c_last : (k : Kind) (P : Text → Type 0) → ((ts : Text) → P ts → Takes k ts) → (inner : Text) → P inner → Closes (it.One k ∷ it.Right ∷ []) inner
+  pub c_last : (k : Nonterminal) (P : Text → Type 0) → ((ts : Text) → P ts → Takes k ts) → (inner : Text) → P inner → Closes (it.One k ∷ it.Right ∷ []) inner
   c_last k P takes inner h = record { closed = λ items b. (takes inner h).taken (it.Right ∷ items) (says.Right ∷ b) refl }
 
   -- an argument, and then others
-  pub c_one : (k : Kind) (r : List Item) (P Q : Text → Type 0) → no_tail r ≡ true → ((ts : Text) → P ts → Takes k ts) → ((inner : Text) → Q inner → Closes r inner) → (inner : Text) → Then P Q inner → Closes (it.One k ∷ r) inner
+  pub c_one : (k : Nonterminal) (r : List Symbol) (P Q : Text → Type 0) → no_tail r ≡ true → ((ts : Text) → P ts → Takes k ts) → ((inner : Text) → Q inner → Closes r inner) → (inner : Text) → Then P Q inner → Closes (it.One k ∷ r) inner
   c_one k r P Q shuts takes closes inner (a, q, e, p, rest) = subst (Closes (it.One k ∷ r)) (sym e) (record {
     closed = λ items b.
         ap (accepts w (it.One k ∷ (r ++ items))) (append_assoc a q (says.Right ∷ b))
@@ -227,13 +227,13 @@ module _ (w : Bool) where
         ∙ (closes q rest).closed items b;
   })
 
-  until_one : (k : Kind) (a : Text) → Takes k a → (items : List Item) (b : Text) → accepts w (it.Until k ∷ items) (a ++ b) ≡ accepts w (it.One k ∷ it.Until k ∷ items) (a ++ b)
+  until_one : (k : Nonterminal) (a : Text) → Takes k a → (items : List Symbol) (b : Text) → accepts w (it.Until k ∷ items) (a ++ b) ≡ accepts w (it.One k ∷ it.Until k ∷ items) (a ++ b)
   until_one k a p items b =
       let f = takes_first k a p in
       subst (λ us. accepts w (it.Until k ∷ items) (us ++ b) ≡ accepts w (it.One k ∷ it.Until k ∷ items) (us ++ b)) (sym f.is) (accepts_same (it.Until k ∷ items) (it.One k ∷ it.Until k ∷ items) f.token (f.rest ++ b) (until_same w k items f.token (not_right w k f.token f.items f.begins)))
 
   -- any number of phrases
-  pub c_many : {X : Type 0} (k : Kind) (spells : X → Text → Type 0) (xs : List X) → AllByRecursion (λ x. (ts : Text) → spells x ts → Takes k ts) xs → (inner : Text) → Many0 spells xs inner → Closes (it.Until k ∷ []) inner
+  pub c_many : {X : Type 0} (k : Nonterminal) (spells : X → Text → Type 0) (xs : List X) → AllByRecursion (λ x. (ts : Text) → spells x ts → Takes k ts) xs → (inner : Text) → Many0 spells xs inner → Closes (it.Until k ∷ []) inner
   c_many k spells [] each inner e = subst (Closes (it.Until k ∷ [])) (sym e) (record { closed = λ items b. refl })
   c_many k spells (x ∷ xs) each inner (a, q, e, p, rest) = subst (Closes (it.Until k ∷ [])) (sym e) (record {
     closed = λ items b.
@@ -245,26 +245,26 @@ module _ (w : Bool) where
   })
 
   -- one or more
-  pub c_some : {X : Type 0} (k : Kind) (spells : X → Text → Type 0) (xs : List X) → AllByRecursion (λ x. (ts : Text) → spells x ts → Takes k ts) xs → (inner : Text) → Many1 spells xs inner → Closes (it.One k ∷ it.Until k ∷ []) inner
+  pub c_some : {X : Type 0} (k : Nonterminal) (spells : X → Text → Type 0) (xs : List X) → AllByRecursion (λ x. (ts : Text) → spells x ts → Takes k ts) xs → (inner : Text) → Many1 spells xs inner → Closes (it.One k ∷ it.Until k ∷ []) inner
   c_some k spells [] each inner h = absurd h
   c_some k spells (x ∷ xs) each inner h = c_one k (it.Until k ∷ []) (spells x) (Many0 spells xs) refl each.0 (c_many k spells xs each.1) inner h
 
-  maybe_one : (k : Kind) (a : Text) → ((t : Lexeme) → row w k t ≡ row false k t) → Takes k a → (items : List Item) (b : Text) → accepts w (it.Maybe k ∷ items) (a ++ b) ≡ accepts w (it.One k ∷ items) (a ++ b)
+  maybe_one : (k : Nonterminal) (a : Text) → ((t : Lexeme) → row w k t ≡ row false k t) → Takes k a → (items : List Symbol) (b : Text) → accepts w (it.Maybe k ∷ items) (a ++ b) ≡ accepts w (it.One k ∷ items) (a ++ b)
   maybe_one k a same p items b =
       let f = takes_first k a p in
       subst (λ us. accepts w (it.Maybe k ∷ items) (us ++ b) ≡ accepts w (it.One k ∷ items) (us ++ b)) (sym f.is) (accepts_same (it.Maybe k ∷ items) (it.One k ∷ items) f.token (f.rest ++ b) (step_opens w (it.Maybe k) items f.items f.token (sym (same f.token) ∙ f.begins) ∙ sym (step_opens w (it.One k) items f.items f.token f.begins)))
 
   -- what may be absent, last
-  pub c_maybe : {X : Type 0} (k : Kind) (spells : X → Text → Type 0) (x : Option X) → ((t : Lexeme) → row w k t ≡ row false k t) → IfSome x (λ y. (ts : Text) → spells y ts → Takes k ts) → (inner : Text) → Optional spells x inner → Closes (it.Maybe k ∷ it.Right ∷ []) inner
+  pub c_maybe : {X : Type 0} (k : Nonterminal) (spells : X → Text → Type 0) (x : Option X) → ((t : Lexeme) → row w k t ≡ row false k t) → IfSome x (λ y. (ts : Text) → spells y ts → Takes k ts) → (inner : Text) → Optional spells x inner → Closes (it.Maybe k ∷ it.Right ∷ []) inner
   c_maybe k spells None same takes inner e = subst (Closes (it.Maybe k ∷ it.Right ∷ [])) (sym e) (record { closed = λ items b. refl })
   c_maybe k spells (Some x) same takes inner h = record { closed = λ items b. maybe_one k inner same (takes inner h) (it.Right ∷ items) (says.Right ∷ b) ∙ (takes inner h).taken (it.Right ∷ items) (says.Right ∷ b) refl }
 
-  pub star_one : (k : Kind) (a : Text) → ((t : Lexeme) → row w k t ≡ row false k t) → Takes k a → (items : List Item) (b : Text) → accepts w (it.Star k ∷ items) (a ++ b) ≡ accepts w (it.One k ∷ it.Star k ∷ items) (a ++ b)
+  pub star_one : (k : Nonterminal) (a : Text) → ((t : Lexeme) → row w k t ≡ row false k t) → Takes k a → (items : List Symbol) (b : Text) → accepts w (it.Star k ∷ items) (a ++ b) ≡ accepts w (it.One k ∷ it.Star k ∷ items) (a ++ b)
   star_one k a same p items b =
       let f = takes_first k a p in
       subst (λ us. accepts w (it.Star k ∷ items) (us ++ b) ≡ accepts w (it.One k ∷ it.Star k ∷ items) (us ++ b)) (sym f.is) (accepts_same (it.Star k ∷ items) (it.One k ∷ it.Star k ∷ items) f.token (f.rest ++ b) (step_opens w (it.Star k) items (f.items ++ it.Star k ∷ []) f.token (ap (behind (it.Star k ∷ [])) (sym (same f.token) ∙ f.begins)) ∙ ap Some (append_assoc f.items (it.Star k ∷ []) items) ∙ sym (step_opens w (it.One k) (it.Star k ∷ items) f.items f.token f.begins)))
 
-  star_over : (items : List Item) (b : Text) → first_note b ≡ false → accepts w (it.Star kind.Note ∷ items) b ≡ accepts w items b
+  star_over : (items : List Symbol) (b : Text) → first_note b ≡ false → accepts w (it.Star kind.Note ∷ items) b ≡ accepts w items b
   star_over items [] h = refl
   star_over items (t ∷ b) h = accepts_same (it.Star kind.Note ∷ items) items t b (ap (λ o. after (it.Star kind.Note) items (behind (it.Star kind.Note ∷ []) o) (step w items t)) (none_is (row false kind.Note t) h))
 
@@ -283,7 +283,7 @@ module _ (w : Bool) where
   note_same (says.Lang tag) = refl
 
   -- annotations, and then the arguments
-  pub c_notes : {X : Type 0} (spells : X → Text → Type 0) (xs : List X) (r : List Item) (Q : Text → Type 0) → no_tail r ≡ true → Unnoted r → AllByRecursion (λ x. (ts : Text) → spells x ts → Takes kind.Note ts) xs → ((inner : Text) → Q inner → Closes r inner) → (inner : Text) → Then (Many0 spells xs) Q inner → Closes (it.Star kind.Note ∷ r) inner
+  pub c_notes : {X : Type 0} (spells : X → Text → Type 0) (xs : List X) (r : List Symbol) (Q : Text → Type 0) → no_tail r ≡ true → Unnoted r → AllByRecursion (λ x. (ts : Text) → spells x ts → Takes kind.Note ts) xs → ((inner : Text) → Q inner → Closes r inner) → (inner : Text) → Then (Many0 spells xs) Q inner → Closes (it.Star kind.Note ∷ r) inner
   c_notes spells [] r Q shuts unnoted each closes inner (a, q, e, none, rest) = subst (Closes (it.Star kind.Note ∷ r)) (sym (e ∙ ap (λ us. us ++ q) none)) (record { closed = λ items b. star_over (r ++ items) (q ++ says.Right ∷ b) (free_notes r q unnoted (closes q rest) b) ∙ (closes q rest).closed items b })
   c_notes spells (x ∷ xs) r Q shuts unnoted each closes inner (a, q, e, (n, ns, e', p, others), rest) = subst (Closes (it.Star kind.Note ∷ r)) (sym (e ∙ ap (λ us. us ++ q) e' ∙ append_assoc n ns q)) (record {
     closed = λ items b.
@@ -336,7 +336,7 @@ module _ (w : Bool) where
           }
 
 -- a further property, in the wide grammar
-end_first : (a : Text) → Closes true (it.Filler ∷ []) a → (items : List Item) (b : Text) → accepts true (it.End ∷ items) (a ++ says.Right ∷ b) ≡ accepts true (it.Filler ∷ items) (a ++ says.Right ∷ b)
+end_first : (a : Text) → Closes true (it.Filler ∷ []) a → (items : List Symbol) (b : Text) → accepts true (it.End ∷ items) (a ++ says.Right ∷ b) ≡ accepts true (it.Filler ∷ items) (a ++ says.Right ∷ b)
 end_first [] p items b = absurd (true≢false (sym (p.closed [] [])))
 end_first (says.Left ∷ a) p items b = refl
 end_first (says.Right ∷ a) p items b = absurd (true≢false (sym (p.closed [] [])))

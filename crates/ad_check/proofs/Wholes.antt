@@ -1,6 +1,6 @@
 -- Whole texts of the grammar are read to their end.
 use Rattle.std.proofs.Common.{◌≡◌, ◌≢◌, ℕ, suc, ◌≤◌, Bool, true, false, List, [], ◌∷◌, ◌++◌, length, None, Some, refl, sym, ◌∙◌, ap, subst, arith, append_assoc, append-nil}
-use Rattle.std.specs.Prelude.{codes, if◌then◌else◌}
+use Rattle.std.specs.Prelude.{if◌then◌else◌}
 use Rattle.std.specs.List.{AllByRecursion}
 use Rattle.std.specs.Option.{is_some, option_or}
 use Rattle.std.specs.Str.{bytes_eq}
@@ -9,7 +9,7 @@ use Rattle.ad_lex.proofs.Pieces.{bytes_same}
 use Rattle.ad_lex.specs.Lexemes.{Lexeme}
 use Rattle.ad_lex.specs.Lexemes as says
 use Rattle.ad_write.specs.Keywords as kw
-use Rattle.ad_tree.specs.Signature.{is_logical}
+use Rattle.ad_tree.specs.Logical.{is_logical}
 use Rattle.ad_tree.specs.declared.edits.Sign.{Sign}
 use Rattle.ad_tree.specs.declared.edits.Sign.TheVariants as signs
 use Rattle.ad_tree.specs.declared.axioms.Noted.{Noted}
@@ -19,10 +19,10 @@ use Rattle.ad_grammar.specs.Phrases.{SpellsAnnotation}
 use Rattle.ad_grammar.specs.Axioms.{SpellsNoted}
 use Rattle.ad_grammar.specs.Texts.{Declared, SpellsDeclared, IsImport, Imports, Matching, nothing, enclosed, another, IsHead, AreNotes, Ontology, sign_of, Behind}
 use Rattle.ad_grammar.specs.Faults.{Statement, stated, rule, SpellsStatement, IsLogicalStatement, SpellsSigned, Form, class, range, property, individual, literal, document, edit, seed, single, IsOf}
-use Rattle.ad_check.specs.declared.items.Item.{Item}
-use Rattle.ad_check.specs.declared.items.Item.TheVariants as it
-use Rattle.ad_check.specs.declared.items.Kind.{Kind}
-use Rattle.ad_check.specs.declared.items.Kind.TheVariants as kind
+use Rattle.ad_check.specs.declared.items.Symbol.{Symbol}
+use Rattle.ad_check.specs.declared.items.Symbol.TheVariants as it
+use Rattle.ad_check.specs.declared.items.Nonterminal.{Nonterminal}
+use Rattle.ad_check.specs.declared.items.Nonterminal.TheVariants as kind
 use Rattle.ad_check.specs.Machine.{Entry, row, after, step, accepts, tail, behind, lookup, logical_rows, carried_rows, rules_in, imports, is_name, start}
 use Rattle.ad_check.proofs.Tables.{lookup_append}
 use Rattle.ad_check.proofs.Readings.{step_opens}
@@ -38,7 +38,7 @@ found_one : {X : Type 0} (b : Bool) (x : X) → is_some (if b then Some x else N
 found_one true x h = refl
 found_one false x h = absurd (true≢false (sym h))
 
-prefix_word : (t : Lexeme) → is_some (row false kind.Prefix t) ≡ true → t ≡ says.Plain (codes "Prefix")
+prefix_word : (t : Lexeme) → is_some (row false kind.Prefix t) ≡ true → t ≡ says.Plain kw.Prefix
 prefix_word says.Left h = absurd (true≢false (sym h))
 prefix_word says.Right h = absurd (true≢false (sym h))
 prefix_word says.Equals h = absurd (true≢false (sym h))
@@ -47,13 +47,13 @@ prefix_word says.Plus h = absurd (true≢false (sym h))
 prefix_word says.Minus h = absurd (true≢false (sym h))
 prefix_word (says.Iri name) h = absurd (true≢false (sym h))
 prefix_word (says.Text value) h = absurd (true≢false (sym h))
-prefix_word (says.Plain word) h = ap says.Plain (sym (keyword_is (codes "Prefix") word (bytes_eq (codes "Prefix") word) refl (found_one (bytes_eq (codes "Prefix") word) _ h)))
+prefix_word (says.Plain word) h = ap says.Plain (sym (keyword_is kw.Prefix word (bytes_eq kw.Prefix word) refl (found_one (bytes_eq kw.Prefix word) _ h)))
 prefix_word (says.Short prefix local) h = absurd (true≢false (sym h))
 prefix_word (says.Node []) h = absurd (true≢false (sym h))
 prefix_word (says.Node (c ∷ cs)) h = absurd (true≢false (sym h))
 prefix_word (says.Lang tag) h = absurd (true≢false (sym h))
 
-import_word : (t : Lexeme) → imports t ≡ true → t ≡ says.Plain (codes "Import")
+import_word : (t : Lexeme) → imports t ≡ true → t ≡ says.Plain kw.Import
 import_word says.Left h = absurd (true≢false (sym h))
 import_word says.Right h = absurd (true≢false (sym h))
 import_word says.Equals h = absurd (true≢false (sym h))
@@ -62,12 +62,12 @@ import_word says.Plus h = absurd (true≢false (sym h))
 import_word says.Minus h = absurd (true≢false (sym h))
 import_word (says.Iri name) h = absurd (true≢false (sym h))
 import_word (says.Text value) h = absurd (true≢false (sym h))
-import_word (says.Plain word) h = ap says.Plain (sym (keyword_is (codes "Import") word (bytes_eq (codes "Import") word) refl h))
+import_word (says.Plain word) h = ap says.Plain (sym (keyword_is kw.Import word (bytes_eq kw.Import word) refl h))
 import_word (says.Short prefix local) h = absurd (true≢false (sym h))
 import_word (says.Node label) h = absurd (true≢false (sym h))
 import_word (says.Lang tag) h = absurd (true≢false (sym h))
 
-row_not_tail : (w : Bool) (k : Kind) (t : Lexeme) (r : List Item) → row w k t ≡ Some r → is_some (tail t) ≡ false
+row_not_tail : (w : Bool) (k : Nonterminal) (t : Lexeme) (r : List Symbol) → row w k t ≡ Some r → is_some (tail t) ≡ false
 row_not_tail w k says.Left r h = refl
 row_not_tail w k says.Right r h = refl
 row_not_tail w k says.Equals r h = refl
@@ -82,22 +82,22 @@ row_not_tail w k (says.Node label) r h = refl
 row_not_tail w k (says.Lang tag) r h = absurd (none_not_some r h)
 
 -- whether a text begins with a phrase of this kind
-abbrev first_kind : Kind → Text → Bool
+abbrev first_kind : Nonterminal → Text → Bool
 first_kind k [] = false
 first_kind k (t ∷ ts) = is_some (row false k t)
 
 module _ (w : Bool) where
-  takes_tail : (k : Kind) (a b : Text) → Takes w k a → first_tail (a ++ b) ≡ false
+  takes_tail : (k : Nonterminal) (a b : Text) → Takes w k a → first_tail (a ++ b) ≡ false
   takes_tail k a b p =
       let f = takes_first w k a p in
       subst (λ us. first_tail (us ++ b) ≡ false) (sym f.is) (row_not_tail w k f.token f.items f.begins)
 
-  star_skip : (k : Kind) (items : List Item) (q : Text) → first_kind k q ≡ false → accepts w (it.Star k ∷ items) q ≡ accepts w items q
+  star_skip : (k : Nonterminal) (items : List Symbol) (q : Text) → first_kind k q ≡ false → accepts w (it.Star k ∷ items) q ≡ accepts w items q
   star_skip k items [] h = refl
   star_skip k items (t ∷ q) h = accepts_same w (it.Star k ∷ items) items t q (ap (λ o. after (it.Star k) items (behind (it.Star k ∷ []) o) (step w items t)) (none_is (row false k t) h))
 
   -- any number of phrases, and then a text that doesn't begin as one
-  star_all : {X : Type 0} (k : Kind) (spells : X → Text → Type 0) → ((t : Lexeme) → row w k t ≡ row false k t) → (xs : List X) → AllByRecursion (λ x. (ts : Text) → spells x ts → Takes w k ts) xs → (n q : Text) → Many0 spells xs n → first_kind k q ≡ false → first_tail q ≡ false → (items : List Item) → accepts w (it.Star k ∷ items) (n ++ q) ≡ accepts w items q
+  star_all : {X : Type 0} (k : Nonterminal) (spells : X → Text → Type 0) → ((t : Lexeme) → row w k t ≡ row false k t) → (xs : List X) → AllByRecursion (λ x. (ts : Text) → spells x ts → Takes w k ts) xs → (n q : Text) → Many0 spells xs n → first_kind k q ≡ false → first_tail q ≡ false → (items : List Symbol) → accepts w (it.Star k ∷ items) (n ++ q) ≡ accepts w items q
   star_all k spells same [] each n q e free no_tail items = ap (λ us. accepts w (it.Star k ∷ items) (us ++ q)) e ∙ star_skip k items q free
   star_all {X = X} k spells same (x ∷ xs) each n q (a, ns, e, p, rest) free no_tail items =
       ap (λ us. accepts w (it.Star k ∷ items) (us ++ q)) e
@@ -156,12 +156,12 @@ entity_same w (says.Node label) = refl
 entity_same w (says.Lang tag) = refl
 
 -- the inside of a rule
-any_all : (a : Text) → Matching a → (items : List Item) (b : Text) → accepts true (it.Any ∷ items) (a ++ b) ≡ accepts true (it.Any ∷ items) b
+any_all : (a : Text) → Matching a → (items : List Symbol) (b : Text) → accepts true (it.Any ∷ items) (a ++ b) ≡ accepts true (it.Any ∷ items) b
 any_all _ nothing items b = refl
 any_all _ (enclosed a c inside rest) items b = ap (accepts true (it.Any ∷ it.Any ∷ items)) (append_assoc a (says.Right ∷ c) b) ∙ any_all a inside (it.Any ∷ items) (says.Right ∷ (c ++ b)) ∙ any_all c rest items b
 any_all _ (another l c left right rest) items b = any_token l left right items (c ++ b) ∙ any_all c rest items b
   where
-    any_token : (l : Lexeme) → l ≢ says.Left → l ≢ says.Right → (items : List Item) (b : Text) → accepts true (it.Any ∷ items) (l ∷ b) ≡ accepts true (it.Any ∷ items) b
+    any_token : (l : Lexeme) → l ≢ says.Left → l ≢ says.Right → (items : List Symbol) (b : Text) → accepts true (it.Any ∷ items) (l ∷ b) ≡ accepts true (it.Any ∷ items) b
     any_token says.Left left right items b = absurd (left refl)
     any_token says.Right left right items b = absurd (right refl)
     any_token says.Equals left right items b = refl
@@ -178,13 +178,13 @@ any_all _ (another l c left right rest) items b = any_token l left right items (
 rule_closes : (inner : Text) → Matching inner → Closes true (it.Any ∷ []) inner
 rule_closes inner m = record { closed = λ items b. any_all inner m items (says.Right ∷ b) }
 
-found_first : (xs ys : List Entry) (word : List ℕ) (r : List Item) → lookup xs word ≡ Some r → lookup (xs ++ ys) word ≡ Some r
+found_first : (xs ys : List Entry) (word : List ℕ) (r : List Symbol) → lookup xs word ≡ Some r → lookup (xs ++ ys) word ≡ Some r
 found_first xs ys word r h = lookup_append xs ys word ∙ ap (λ o. option_or o (lookup ys word)) h
 
-logical_first : (w : Bool) (word : List ℕ) (r : List Item) → lookup logical_rows word ≡ Some r → row w kind.Axiom (says.Plain word) ≡ Some r
+logical_first : (w : Bool) (word : List ℕ) (r : List Symbol) → lookup logical_rows word ≡ Some r → row w kind.Axiom (says.Plain word) ≡ Some r
 logical_first w word r h = found_first (logical_rows ++ carried_rows) (rules_in w) word r (found_first logical_rows carried_rows word r h)
 
-logical_alone : (w : Bool) (word : List ℕ) (r : List Item) → lookup logical_rows word ≡ Some r → row w kind.Logical (says.Plain word) ≡ Some r
+logical_alone : (w : Bool) (word : List ℕ) (r : List Symbol) → lookup logical_rows word ≡ Some r → row w kind.Logical (says.Plain word) ≡ Some r
 logical_alone w word r h = found_first logical_rows (rules_in w) word r h
 
 takes_noted : (w : Bool) (words : Words) (noted : Noted) (ts : Text) → SpellsNoted w words noted ts → Takes w kind.Axiom ts
@@ -196,12 +196,12 @@ takes_noted w words noted ts h = by_sort (is_logical noted.axiom) refl
 
 takes_statement : (w : Bool) (words : Words) (s : Statement) (ts : Text) → SpellsStatement w words s ts → Takes w kind.Axiom ts
 takes_statement w words (stated noted) ts h = takes_noted w words noted ts h
-takes_statement true words rule ts h = compound true kind.Axiom (codes "DLSafeRule") (it.Any ∷ []) Matching refl rule_closes ts h
+takes_statement true words rule ts h = compound true kind.Axiom kw.DLSafeRule (it.Any ∷ []) Matching refl rule_closes ts h
 takes_statement false words rule ts h = absurd h
 
 takes_single : (w : Bool) (words : Words) (s : Statement) (ts : Text) → IsLogicalStatement s → SpellsStatement w words s ts → Takes w kind.Logical ts
 takes_single w words (stated noted) ts logical h = takes_logical w words noted.notes kind.Logical (logical_alone w) noted.axiom logical ts h
-takes_single true words rule ts logical h = compound true kind.Logical (codes "DLSafeRule") (it.Any ∷ []) Matching refl rule_closes ts h
+takes_single true words rule ts logical h = compound true kind.Logical kw.DLSafeRule (it.Any ∷ []) Matching refl rule_closes ts h
 takes_single false words rule ts logical h = absurd h
 
 takes_signed : (w : Bool) (words : Words) (s : Sign × Statement) (ts : Text) → SpellsSigned w words s ts → Takes w kind.Signed ts
@@ -216,11 +216,11 @@ unnoted_axioms : (w : Bool) → Unnoted w (it.Until kind.Axiom ∷ [])
 unnoted_axioms true items = refl
 unnoted_axioms false items = refl
 
-body_import : (w : Bool) (items : List Item) → step w (it.Star kind.Note ∷ it.Until kind.Axiom ∷ items) (says.Plain (codes "Import")) ≡ None
+body_import : (w : Bool) (items : List Symbol) → step w (it.Star kind.Note ∷ it.Until kind.Axiom ∷ items) (says.Plain kw.Import) ≡ None
 body_import true items = refl
 body_import false items = refl
 
-abbrev BodyItems : List Item
+abbrev BodyItems : List Symbol
 BodyItems = it.Star kind.Note ∷ it.Until kind.Axiom ∷ []
 
 -- annotations and axioms, before which no import stands
@@ -231,7 +231,7 @@ c_plain_body w (t ∷ q) p = record { closed = λ items b. accepts_same w (it.Bo
     none : imports t ≡ false
     none = false_by (imports t) (λ e. true≢false (sym (p.closed [] []) ∙ accepts_none w BodyItems t (q ++ says.Right ∷ []) (subst (λ u. step w BodyItems u ≡ None) (sym (import_word t e)) (body_import w []))))
 
-import_over : (words : Words) (name : List ℕ) (a : Text) → IsImport words name a → (items : List Item) (b : Text) → accepts true (it.Body ∷ items) (a ++ b) ≡ accepts true (it.Body ∷ items) b
+import_over : (words : Words) (name : List ℕ) (a : Text) → IsImport words name a → (items : List Symbol) (b : Text) → accepts true (it.Body ∷ items) (a ++ b) ≡ accepts true (it.Body ∷ items) b
 import_over words name a (n, e, is) items b = ap (λ us. accepts true (it.Body ∷ items) (us ++ b)) e ∙ ap (accepts true (it.One kind.Name ∷ it.Right ∷ it.Body ∷ items)) (append_assoc n (says.Right ∷ []) b) ∙ (takes_name true words kind.Name refl name n is).taken (it.Right ∷ it.Body ∷ items) (says.Right ∷ b) refl
 
 c_imports : (words : Words) (names : List (List ℕ)) (n q : Text) → Many0 (IsImport words) names n → Closes true (it.Body ∷ []) q → Closes true (it.Body ∷ []) (n ++ q)
@@ -301,15 +301,15 @@ module _ (w : Bool) where
   free_name [] p b = refl
   free_name (t ∷ q) p b = false_by (is_name t) (λ e. true≢false (sym (p.closed [] []) ∙ accepts_none w (it.Body ∷ []) t (q ++ says.Right ∷ []) (body_name w t e)))
 
-  name_skip : (items : List Item) (c : Text) → first_name c ≡ false → accepts w (it.Maybe kind.Name ∷ it.Body ∷ items) c ≡ accepts w (it.Body ∷ items) c
+  name_skip : (items : List Symbol) (c : Text) → first_name c ≡ false → accepts w (it.Maybe kind.Name ∷ it.Body ∷ items) c ≡ accepts w (it.Body ∷ items) c
   name_skip items [] h = refl
   name_skip items (t ∷ c) h = accepts_same w (it.Maybe kind.Name ∷ it.Body ∷ items) (it.Body ∷ items) t c (ap (λ o. after (it.Maybe kind.Name) (it.Body ∷ items) o (step w (it.Body ∷ items) t)) (no_name t h))
 
-  name_skips : (items : List Item) (c : Text) → first_name c ≡ false → accepts w (it.Maybe kind.Name ∷ it.Maybe kind.Name ∷ it.Body ∷ items) c ≡ accepts w (it.Body ∷ items) c
+  name_skips : (items : List Symbol) (c : Text) → first_name c ≡ false → accepts w (it.Maybe kind.Name ∷ it.Maybe kind.Name ∷ it.Body ∷ items) c ≡ accepts w (it.Body ∷ items) c
   name_skips items [] h = refl
   name_skips items (t ∷ c) h = accepts_same w (it.Maybe kind.Name ∷ it.Maybe kind.Name ∷ it.Body ∷ items) (it.Maybe kind.Name ∷ it.Body ∷ items) t c (ap (λ o. after (it.Maybe kind.Name) (it.Maybe kind.Name ∷ it.Body ∷ items) o (step w (it.Maybe kind.Name ∷ it.Body ∷ items) t)) (no_name t h)) ∙ name_skip items (t ∷ c) h
 
-  name_take : (more : List Item) (t : Lexeme) (c : Text) → is_name t ≡ true → accepts w (it.Maybe kind.Name ∷ more) (t ∷ c) ≡ accepts w more c
+  name_take : (more : List Symbol) (t : Lexeme) (c : Text) → is_name t ≡ true → accepts w (it.Maybe kind.Name ∷ more) (t ∷ c) ≡ accepts w more c
   name_take more t c h = accepts_step w (it.Maybe kind.Name ∷ more) more t c (step_opens w (it.Maybe kind.Name) more [] t (a_name t h))
 
   c_head : (words : Words) (heads : List (List ℕ)) → length heads ≤ 2 → (n q : Text) → Many0 (IsName words) heads n → Closes w (it.Body ∷ []) q → Closes w (it.Maybe kind.Name ∷ it.Maybe kind.Name ∷ it.Body ∷ []) (n ++ q)
@@ -327,24 +327,24 @@ module _ (w : Bool) where
       heads : (inner : Text) → Then (IsHead words) (Then (Imports w words) (Then (AreNotes words) (Many0 (SpellsStatement w words) statements))) inner → Closes w (it.Maybe kind.Name ∷ it.Maybe kind.Name ∷ it.Body ∷ []) inner
       heads inner (n, q, e, (names_, few, spelled), rest) = subst (Closes w (it.Maybe kind.Name ∷ it.Maybe kind.Name ∷ it.Body ∷ [])) (sym e) (c_head words names_ few n q spelled (c_body w words statements q rest))
 
-  alone : (k : Kind) (ts : Text) → Takes w k ts → accepts w (it.One k ∷ []) ts ≡ true
+  alone : (k : Nonterminal) (ts : Text) → Takes w k ts → accepts w (it.One k ∷ []) ts ≡ true
   alone k ts p = ap (accepts w (it.One k ∷ [])) (sym (append-nil ts)) ∙ p.taken [] [] refl
 
   -- a phrase that begins no declaration of a prefix
-  not_prefix : (k : Kind) (q : Text) → row w k (says.Plain (codes "Prefix")) ≡ None → Takes w k q → first_kind kind.Prefix q ≡ false
+  not_prefix : (k : Nonterminal) (q : Text) → row w k (says.Plain kw.Prefix) ≡ None → Takes w k q → first_kind kind.Prefix q ≡ false
   not_prefix k q none p =
       let f = takes_first w k q p in
       subst (λ us. first_kind kind.Prefix us ≡ false) (sym f.is) (false_by (is_some (row false kind.Prefix f.token)) (λ e. none_not_some f.items (sym none ∙ ap (row w k) (sym (prefix_word f.token e)) ∙ f.begins)))
 
-  behind_prefixes : (declared : List Declared) (items : List Item) (n q : Text) → Many0 SpellsDeclared declared n → first_kind kind.Prefix q ≡ false → first_tail q ≡ false → accepts w (it.Star kind.Prefix ∷ items) (n ++ q) ≡ accepts w items q
+  behind_prefixes : (declared : List Declared) (items : List Symbol) (n q : Text) → Many0 SpellsDeclared declared n → first_kind kind.Prefix q ≡ false → first_tail q ≡ false → accepts w (it.Star kind.Prefix ∷ items) (n ++ q) ≡ accepts w items q
   behind_prefixes declared items n q h free no_tail = star_all w kind.Prefix SpellsDeclared (prefix_same w) declared (all_each _ (takes_declared w) declared) n q h free no_tail items
 
-  phrase_behind : (k : Kind) (declared : List Declared) (P : Text → Type 0) → row w k (says.Plain (codes "Prefix")) ≡ None → ((ts : Text) → P ts → Takes w k ts) → (ts : Text) → Behind declared P ts → accepts w (it.Star kind.Prefix ∷ it.One k ∷ []) ts ≡ true
+  phrase_behind : (k : Nonterminal) (declared : List Declared) (P : Text → Type 0) → row w k (says.Plain kw.Prefix) ≡ None → ((ts : Text) → P ts → Takes w k ts) → (ts : Text) → Behind declared P ts → accepts w (it.Star kind.Prefix ∷ it.One k ∷ []) ts ≡ true
   phrase_behind k declared P none takes ts (n, q, e, d, h) =
       let p = takes q h in
       ap (accepts w (it.Star kind.Prefix ∷ it.One k ∷ [])) e ∙ behind_prefixes declared (it.One k ∷ []) n q d (not_prefix k q none p) (ap first_tail (sym (append-nil q)) ∙ takes_tail w k q [] p) ∙ alone k q p
 
-  many_behind : {X : Type 0} (k : Kind) (declared : List Declared) (spells : X → Text → Type 0) (xs : List X) → ((t : Lexeme) → row w k t ≡ row false k t) → row w k (says.Plain (codes "Prefix")) ≡ None → ((x : X) (ts : Text) → spells x ts → Takes w k ts) → (ts : Text) → Behind declared (Many0 spells xs) ts → accepts w (it.Star kind.Prefix ∷ it.Star k ∷ []) ts ≡ true
+  many_behind : {X : Type 0} (k : Nonterminal) (declared : List Declared) (spells : X → Text → Type 0) (xs : List X) → ((t : Lexeme) → row w k t ≡ row false k t) → row w k (says.Plain kw.Prefix) ≡ None → ((x : X) (ts : Text) → spells x ts → Takes w k ts) → (ts : Text) → Behind declared (Many0 spells xs) ts → accepts w (it.Star kind.Prefix ∷ it.Star k ∷ []) ts ≡ true
   many_behind {X = X} k declared spells xs same none takes ts (n, q, e, d, h) = ap (accepts w (it.Star kind.Prefix ∷ it.Star k ∷ [])) e ∙ behind_prefixes declared (it.Star k ∷ []) n q d (front xs q h).0 (front xs q h).1 ∙ ap (accepts w (it.Star k ∷ [])) (sym (append-nil q)) ∙ star_all w k spells same xs (all_each _ takes xs) q [] h refl refl []
     where
       front : (ys : List X) (m : Text) → Many0 spells ys m → (first_kind kind.Prefix m ≡ false) × (first_tail m ≡ false)
@@ -354,7 +354,7 @@ module _ (w : Bool) where
           let one : first_kind kind.Prefix (a ++ ms) ≡ false = subst (λ us. first_kind kind.Prefix (us ++ ms) ≡ false) (sym f.is) (false_by (is_some (row false kind.Prefix f.token)) (λ h'. none_not_some f.items (sym none ∙ ap (row w k) (sym (prefix_word f.token h')) ∙ f.begins))) in
           (ap (first_kind kind.Prefix) e' ∙ one, ap first_tail e' ∙ takes_tail w k a ms (takes y a p))
 
-single_prefix : (w : Bool) → row w kind.Logical (says.Plain (codes "Prefix")) ≡ None
+single_prefix : (w : Bool) → row w kind.Logical (says.Plain kw.Prefix) ≡ None
 single_prefix true = refl
 single_prefix false = refl
 

@@ -1,6 +1,6 @@
 -- Laws of the grammar and its first fault.
 use Rattle.std.specs.Prelude.{◌≡◌, ℕ, false, List}
-use Rattle.ad_tree.specs.declared.entities.Entity.{Entity}
+use Rattle.ad_entity.specs.declared.entities.Entity.{Entity}
 use Rattle.ad_tree.specs.declared.edits.Op.{Op}
 use Rattle.ad_tree.specs.declared.axioms.Noted.{Noted}
 use Rattle.ad_grammar.specs.Shapes.{Text}

@@ -1,6 +1,6 @@
 -- A reading of texts from the left by a list of what may stand next. Its rows are those of the written grammar; what it
 -- accepts is exactly what the grammar has, which is a law of this crate.
-use Rattle.std.specs.Prelude.{ℕ, ◌+◌, ◌&&◌, Bool, true, false, List, [], ◌∷◌, ◌++◌, length, codes, nat_lt, Option, None, Some, if◌then◌else◌}
+use Rattle.std.specs.Prelude.{ℕ, ◌+◌, ◌&&◌, Bool, true, false, List, [], ◌∷◌, ◌++◌, length, nat_lt, Option, None, Some, if◌then◌else◌}
 use Rattle.std.specs.List.{list_all}
 use Rattle.std.specs.Char.{digit_value}
 use Rattle.std.specs.Option.{is_some}
@@ -11,25 +11,25 @@ use Rattle.ad_lex.specs.Lexemes as says
 use Rattle.ad_write.specs.Keywords as kw
 use Rattle.ad_grammar.specs.Shapes.{Text}
 use Rattle.ad_grammar.specs.Faults.{Form, class, range, property, individual, literal, document, edit, seed, single}
-use Rattle.ad_check.specs.declared.items.Item.{Item}
-use Rattle.ad_check.specs.declared.items.Item.TheVariants as it
-use Rattle.ad_check.specs.declared.items.Kind.{Kind}
-use Rattle.ad_check.specs.declared.items.Kind.TheVariants as kind
-use Rattle.ad_check.specs.declared.items.Row.{Row}
+use Rattle.ad_check.specs.declared.items.Symbol.{Symbol}
+use Rattle.ad_check.specs.declared.items.Symbol.TheVariants as it
+use Rattle.ad_check.specs.declared.items.Nonterminal.{Nonterminal}
+use Rattle.ad_check.specs.declared.items.Nonterminal.TheVariants as kind
+use Rattle.ad_check.specs.declared.items.Production.{Production}
 use Rattle.ad_check.specs.declared.items.Halt.{Halt}
 
 -- a keyword, and what stands behind it
 pub record Entry : Type 0 where
   pub word : List ℕ
-  pub items : List Item
+  pub items : List Symbol
 
-abbrev pub entry : List ℕ → List Item → Entry
+abbrev pub entry : List ℕ → List Symbol → Entry
 entry word items = record { word = word; items = items }
 
-abbrev pub entry_of : Row → Entry
+abbrev pub entry_of : Production → Entry
 entry_of row = entry row.word.now row.items.now
 
-abbrev pub lookup : List Entry → List ℕ → Option (List Item)
+abbrev pub lookup : List Entry → List ℕ → Option (List Symbol)
 lookup [] word = None
 lookup (e ∷ es) word = if bytes_eq e.word word then Some e.items else lookup es word
 
@@ -134,25 +134,25 @@ carried_rows =
     ∷ []
 
 abbrev pub prefix_rows : List Entry
-prefix_rows = entry (codes "Prefix") (it.Left ∷ it.Label ∷ it.Equals ∷ it.Full ∷ it.Right ∷ []) ∷ []
+prefix_rows = entry kw.Prefix (it.Left ∷ it.Label ∷ it.Equals ∷ it.Full ∷ it.Right ∷ []) ∷ []
 
 abbrev pub ontology_rows : List Entry
 ontology_rows = entry kw.Ontology (it.Left ∷ it.Maybe kind.Name ∷ it.Maybe kind.Name ∷ it.Body ∷ []) ∷ []
 
 abbrev pub rule_rows : List Entry
-rule_rows = entry (codes "DLSafeRule") (it.Left ∷ it.Any ∷ []) ∷ []
+rule_rows = entry kw.DLSafeRule (it.Left ∷ it.Any ∷ []) ∷ []
 
 -- the rows that the wide grammar alone has
 abbrev pub rules_in : Bool → List Entry
 rules_in true = rule_rows
 rules_in false = []
 
-abbrev pub wide_table : Bool → Kind → List Entry
+abbrev pub wide_table : Bool → Nonterminal → List Entry
 wide_table w kind.Axiom = rules_in w
 wide_table w kind.Logical = rules_in w
 wide_table w _ = []
 
-abbrev pub plain_table : Kind → List Entry
+abbrev pub plain_table : Nonterminal → List Entry
 plain_table kind.Name = []
 plain_table kind.Number = []
 plain_table kind.Property = property_rows
@@ -172,11 +172,11 @@ plain_table kind.Prefix = prefix_rows
 plain_table kind.Signed = []
 plain_table kind.Ontology = ontology_rows
 
-abbrev pub table : Bool → Kind → List Entry
+abbrev pub table : Bool → Nonterminal → List Entry
 table w k = plain_table k ++ wide_table w k
 
 -- behind an iri that begins a phrase
-abbrev pub named : Kind → Option (List Item)
+abbrev pub named : Nonterminal → Option (List Symbol)
 named kind.Name = Some []
 named kind.Number = None
 named kind.Property = Some []
@@ -197,20 +197,20 @@ named kind.Signed = None
 named kind.Ontology = None
 
 -- behind the label of an anonymous individual
-abbrev pub labelled : Kind → Option (List Item)
+abbrev pub labelled : Nonterminal → Option (List Symbol)
 labelled kind.Individual = Some []
 labelled kind.Subject = Some []
 labelled kind.Value = Some []
 labelled _ = None
 
 -- behind a string
-abbrev pub quoted : Kind → Option (List Item)
+abbrev pub quoted : Nonterminal → Option (List Symbol)
 quoted kind.Literal = Some (it.Tail ∷ [])
 quoted kind.Value = Some (it.Tail ∷ [])
 quoted _ = None
 
 -- behind a sign
-abbrev pub signed : Kind → Option (List Item)
+abbrev pub signed : Nonterminal → Option (List Symbol)
 signed kind.Signed = Some (it.One kind.Axiom ∷ [])
 signed _ = None
 
@@ -219,7 +219,7 @@ abbrev pub is_number : List ℕ → Bool
 is_number digits = nat_lt 0 (length digits) && list_all (λ d. nat_lt (digit_value d) 10) digits && nat_lt (digits_value 10 digits) 4294967296
 
 -- whether the word is a number where one may stand
-abbrev pub counts : Kind → List ℕ → Bool
+abbrev pub counts : Nonterminal → List ℕ → Bool
 counts kind.Number word = is_number word
 counts _ word = false
 
@@ -228,7 +228,7 @@ is_empty [] = true
 is_empty (c ∷ cs) = false
 
 -- what stands behind this token in a phrase that begins with it, if one does
-abbrev pub row : Bool → Kind → Lexeme → Option (List Item)
+abbrev pub row : Bool → Nonterminal → Lexeme → Option (List Symbol)
 row w k says.Left = None
 row w k says.Right = None
 row w k says.Equals = None
@@ -243,36 +243,36 @@ row w k (says.Node label) = if is_empty label then None else labelled k
 row w k (says.Lang tag) = None
 
 -- whether the wide grammar alone has a phrase of this kind that begins with this token
-abbrev pub goes_wide : Kind → Lexeme → Bool
+abbrev pub goes_wide : Nonterminal → Lexeme → Bool
 goes_wide k (says.Plain word) = is_some (lookup (wide_table true k) word)
 goes_wide k _ = false
 
-abbrev pub behind : List Item → Option (List Item) → Option (List Item)
+abbrev pub behind : List Symbol → Option (List Symbol) → Option (List Symbol)
 behind more None = None
 behind more (Some items) = Some (items ++ more)
 
-abbrev pub is_left : Lexeme → Option (List Item)
+abbrev pub is_left : Lexeme → Option (List Symbol)
 is_left says.Left = Some []
 is_left _ = None
 
-abbrev pub is_right : Lexeme → Option (List Item)
+abbrev pub is_right : Lexeme → Option (List Symbol)
 is_right says.Right = Some []
 is_right _ = None
 
-abbrev pub is_equals : Lexeme → Option (List Item)
+abbrev pub is_equals : Lexeme → Option (List Symbol)
 is_equals says.Equals = Some []
 is_equals _ = None
 
-abbrev pub is_full : Lexeme → Option (List Item)
+abbrev pub is_full : Lexeme → Option (List Symbol)
 is_full (says.Iri name) = Some []
 is_full _ = None
 
-abbrev pub is_label : Lexeme → Option (List Item)
+abbrev pub is_label : Lexeme → Option (List Symbol)
 is_label (says.Short prefix local) = if is_empty local then Some [] else None
 is_label _ = None
 
 -- what may stand behind the string of a literal
-abbrev pub tail : Lexeme → Option (List Item)
+abbrev pub tail : Lexeme → Option (List Symbol)
 tail says.Carets = Some (it.One kind.Name ∷ [])
 tail (says.Lang tag) = Some []
 tail _ = None
@@ -283,52 +283,52 @@ is_name (says.Short prefix local) = true
 is_name _ = false
 
 -- the range of a restriction on data, or in the wide grammar a further property: a name may be either
-abbrev pub filler : Lexeme → Option (List Item)
+abbrev pub filler : Lexeme → Option (List Symbol)
 filler (says.Iri name) = Some (it.End ∷ [])
 filler (says.Short prefix local) = Some (it.End ∷ [])
 filler (says.Plain word) = behind (it.Right ∷ []) (row false kind.Range (says.Plain word))
 filler _ = None
 
-abbrev pub end : Bool → Lexeme → Option (List Item)
+abbrev pub end : Bool → Lexeme → Option (List Symbol)
 end w says.Right = Some []
 end true t = filler t
 end false t = None
 
 -- the inside of a rule, which the wide grammar alone has
-abbrev pub any : Bool → Lexeme → Option (List Item)
+abbrev pub any : Bool → Lexeme → Option (List Symbol)
 any false t = None
 any true says.Left = Some (it.Any ∷ it.Any ∷ [])
 any true says.Right = Some []
 any true _ = Some (it.Any ∷ [])
 
-abbrev pub until : Bool → Kind → Lexeme → Option (List Item)
+abbrev pub until : Bool → Nonterminal → Lexeme → Option (List Symbol)
 until w k says.Right = Some []
 until w k t = behind (it.Until k ∷ []) (row w k t)
 
 -- imports, which the wide grammar alone has
 abbrev pub import_rows : Bool → List Entry
-import_rows true = entry (codes "Import") (it.Left ∷ it.One kind.Name ∷ it.Right ∷ it.Body ∷ []) ∷ []
+import_rows true = entry kw.Import (it.Left ∷ it.One kind.Name ∷ it.Right ∷ it.Body ∷ []) ∷ []
 import_rows false = []
 
 abbrev pub imports : Lexeme → Bool
-imports (says.Plain word) = bytes_eq (codes "Import") word
+imports (says.Plain word) = bytes_eq kw.Import word
 imports _ = false
 
 abbrev pub rules : Lexeme → Bool
-rules (says.Plain word) = bytes_eq (codes "DLSafeRule") word
+rules (says.Plain word) = bytes_eq kw.DLSafeRule word
 rules _ = false
 
-abbrev pub first_row : Option (List Item) → Option (List Item) → Option (List Item)
+abbrev pub first_row : Option (List Symbol) → Option (List Symbol) → Option (List Symbol)
 first_row (Some items) other = Some items
 first_row None other = other
 
 -- an import, an annotation, an axiom, or the end of the ontology
-abbrev pub body : Bool → Lexeme → Option (List Item)
+abbrev pub body : Bool → Lexeme → Option (List Symbol)
 body w (says.Plain word) = first_row (lookup (import_rows w) word) (first_row (behind (it.Star kind.Note ∷ it.Until kind.Axiom ∷ []) (lookup note_rows word)) (until w kind.Axiom (says.Plain word)))
 body w t = until w kind.Axiom t
 
 -- what stands behind this token where the item stands at the front and takes it
-abbrev pub opens : Bool → Item → Lexeme → Option (List Item)
+abbrev pub opens : Bool → Symbol → Lexeme → Option (List Symbol)
 opens w it.Left t = is_left t
 opens w it.Right t = is_right t
 opens w it.Equals t = is_equals t
@@ -345,49 +345,49 @@ opens w (it.Maybe k) t = row false k t
 opens w (it.Until k) t = until w k t
 
 -- whether the item may be absent
-abbrev pub skips : Item → Bool
+abbrev pub skips : Symbol → Bool
 skips it.Tail = true
 skips (it.Star k) = true
 skips (it.Maybe k) = true
 skips _ = false
 
 -- what may stand next behind a token
-abbrev pub after : Item → List Item → Option (List Item) → Option (List Item) → Option (List Item)
+abbrev pub after : Symbol → List Symbol → Option (List Symbol) → Option (List Symbol) → Option (List Symbol)
 after item more (Some items) next = Some (items ++ more)
 after item more None next = if skips item then next else None
 
-abbrev pub step : Bool → List Item → Lexeme → Option (List Item)
+abbrev pub step : Bool → List Symbol → Lexeme → Option (List Symbol)
 step w [] t = None
 step w (item ∷ items) t = after item items (opens w item t) (step w items t)
 
 -- whether the text may end here
-abbrev pub ends : List Item → Bool
+abbrev pub ends : List Symbol → Bool
 ends [] = true
 ends (item ∷ items) = skips item && ends items
 
-abbrev pub goes : (List Item → Bool) → Option (List Item) → Bool
+abbrev pub goes : (List Symbol → Bool) → Option (List Symbol) → Bool
 goes f None = false
 goes f (Some items) = f items
 
 -- whether a text is read to its end
-abbrev pub accepts : Bool → List Item → Text → Bool
+abbrev pub accepts : Bool → List Symbol → Text → Bool
 accepts w items [] = ends items
 accepts w items (t ∷ ts) = goes (λ next. accepts w next ts) (step w items t)
 
 abbrev pub halt : ℕ → Bool → Halt
 halt at wide = record { token = at; wide = wide }
 
-abbrev pub go_on : (List Item → Option Halt) → Halt → Option (List Item) → Option Halt
+abbrev pub go_on : (List Symbol → Option Halt) → Halt → Option (List Symbol) → Option Halt
 go_on f stop None = Some stop
 go_on f stop (Some items) = f items
 
 -- where the reading of a text, from this token on, stops in the plain grammar, and whether it goes on there in the wide one
-abbrev pub fault : ℕ → List Item → Text → Option Halt
+abbrev pub fault : ℕ → List Symbol → Text → Option Halt
 fault at items [] = if ends items then None else Some (halt at false)
 fault at items (t ∷ ts) = go_on (λ next. fault (at + 1) next ts) (halt at (is_some (step true items t))) (step false items t)
 
 -- what a text of a form is read by
-abbrev pub start : Form → List Item
+abbrev pub start : Form → List Symbol
 start class = it.One kind.Class ∷ []
 start range = it.One kind.Range ∷ []
 start property = it.One kind.Property ∷ []

@@ -1,20 +1,23 @@
 -- What the public checks answer.
-use Rattle.std.specs.Prelude.{◌≡◌, ◌≢◌, ℕ, ◌-◌, ◌≤◌, true, false, ◌∷◌, drop, codes, Option, None, Some, Result, Ok, Err}
+use Rattle.std.specs.Prelude.{◌≡◌, ◌≢◌, ℕ, ◌-◌, ◌≤◌, true, false, ◌∷◌, drop, Option, None, Some, Result, Ok, Err}
 use Rattle.ad_lex.specs.Lexemes.{Lexeme}
 use Rattle.ad_lex.specs.Lexemes as says
+use Rattle.ad_write.specs.Keywords as kw
 use Rattle.ad_grammar.specs.Shapes.{Text}
-use Rattle.ad_grammar.specs.Faults.{Form, IsOf, IsFirstFault, IsWide, IsLongest, IsNoPhrase}
+use Rattle.ad_grammar.specs.Faults.{Form, class, range, property, individual, literal, IsOf, IsFirstFault, IsWide, IsLongest, IsNoPhrase}
 use Rattle.ad_check.specs.declared.items.Halt.{Halt}
 use Rattle.ad_check.specs.declared.texts.Stop.{Stop}
+use Rattle.ad_check.specs.declared.texts.Phrase.{Phrase}
+use Rattle.ad_check.specs.declared.texts.Phrase.TheVariants as phrase
 use Rattle.ad_check.specs.declared.texts.Unsupported.{Unsupported}
 use Rattle.ad_check.specs.declared.texts.Unsupported.TheVariants.{Import, Rule, Nary}
 
 -- which part of the wide grammar goes on at a token: its word tells an import and a rule, and any other token is a
 -- further property of a restriction on data, or its range
 abbrev pub IsAddition : Unsupported → Lexeme → Type 0
-IsAddition Import t = t ≡ says.Plain (codes "Import")
-IsAddition Rule t = t ≡ says.Plain (codes "DLSafeRule")
-IsAddition Nary t = (t ≢ says.Plain (codes "Import")) × (t ≢ says.Plain (codes "DLSafeRule"))
+IsAddition Import t = t ≡ says.Plain kw.Import
+IsAddition Rule t = t ≡ says.Plain kw.DLSafeRule
+IsAddition Nary t = (t ≢ says.Plain kw.Import) × (t ≢ says.Plain kw.DLSafeRule)
 
 -- the same of the token at a place
 abbrev pub IsAdditionAt : Unsupported → Text → ℕ → Type 0
@@ -39,3 +42,11 @@ Checks form ts (Err stop) = IsFirstFault form ts stop.token × Says form ts stop
 abbrev pub ChecksFrom : Form → Text → ℕ → Result ℕ Stop → Type 0
 ChecksFrom form ts from (Ok to) = (from ≤ to) × IsLongest form (drop from ts) (to - from)
 ChecksFrom form ts from (Err stop) = (from ≤ stop.token) × IsNoPhrase form (drop from ts) × IsFirstFault form (drop from ts) (stop.token - from) × Says form (drop from ts) (stop.token - from) stop.what
+
+-- the form of texts that a form of phrases is
+abbrev pub form_of : Phrase → Form
+form_of phrase.Class = class
+form_of phrase.Range = range
+form_of phrase.Property = property
+form_of phrase.Individual = individual
+form_of phrase.Literal = literal

@@ -5,14 +5,14 @@ ghost use Rattle.ad_lex.specs.Spans.{AreTokensOf, IsTokenOf};
 ghost use Rattle.ad_check.specs.Machine as machine;
 ghost use Rattle.ad_check.specs.Machine.{opens};
 ghost use Rattle.ad_check.specs.Reads.{Reads, LooksAt, IsSign};
-ghost use Rattle.ad_check.specs.declared.items.Item.TheVariants as it;
+ghost use Rattle.ad_check.specs.declared.items.Symbol.TheVariants as it;
 
-use crate::items::{Halt, Item, Kind};
+use crate::items::{Halt, Nonterminal, Symbol};
 use crate::tokens::{goes_wide, is_import, is_name, is_sign, row, token_at};
 use ad_lex::{Mark, Token};
 
 /// Checks one token that no phrase begins with.
-fn check_sign(text: &[u8], tokens: &[Token], from: usize, item: Item) -> Result<usize, Halt>
+fn check_sign(text: &[u8], tokens: &[Token], from: usize, item: Symbol) -> Result<usize, Halt>
     requires tokens { AreTokensOf text.now tokens.now }
     requires from { from ≤ length tokens.now }
     requires sign { IsSign item }
@@ -38,7 +38,12 @@ fn check_sign(text: &[u8], tokens: &[Token], from: usize, item: Item) -> Result<
 
 /// Checks a phrase of a kind.
 #[cycle(check)]
-pub(crate) fn check(text: &[u8], tokens: &[Token], from: usize, kind: Kind) -> Result<usize, Halt>
+pub(crate) fn check(
+    text: &[u8],
+    tokens: &[Token],
+    from: usize,
+    kind: Nonterminal,
+) -> Result<usize, Halt>
     requires tokens { AreTokensOf text.now tokens.now }
     requires from { from ≤ length tokens.now }
     ensures reads { Reads (lexemes text.now tokens.now) (it.One kind ∷ []) from result }
@@ -65,7 +70,7 @@ pub(crate) fn check_items(
     text: &[u8],
     tokens: &[Token],
     from: usize,
-    items: &[Item],
+    items: &[Symbol],
 ) -> Result<usize, Halt>
     requires tokens { AreTokensOf text.now tokens.now }
     requires from { from ≤ length tokens.now }
@@ -80,27 +85,27 @@ pub(crate) fn check_items(
 
 /// Checks one item.
 #[cycle(check)]
-fn check_item(text: &[u8], tokens: &[Token], from: usize, item: Item) -> Result<usize, Halt>
+fn check_item(text: &[u8], tokens: &[Token], from: usize, item: Symbol) -> Result<usize, Halt>
     requires tokens { AreTokensOf text.now tokens.now }
     requires from { from ≤ length tokens.now }
     ensures reads { Reads (lexemes text.now tokens.now) (item ∷ []) from result }
 {
     match item {
-        Item::Left | Item::Right | Item::Equals | Item::Full | Item::Label => {
+        Symbol::Left | Symbol::Right | Symbol::Equals | Symbol::Full | Symbol::Label => {
             check_sign(text, tokens, from, item)
         }
-        Item::Tail => check_tail(text, tokens, from),
-        Item::Filler => check_filler(text, tokens, from),
-        Item::End => check_end(text, tokens, from),
-        Item::Any => Err(Halt {
+        Symbol::Tail => check_tail(text, tokens, from),
+        Symbol::Filler => check_filler(text, tokens, from),
+        Symbol::End => check_end(text, tokens, from),
+        Symbol::Any => Err(Halt {
             token: from,
             wide: token_at(text, tokens, from).is_some(),
         }),
-        Item::Body => check_body(text, tokens, from),
-        Item::One(kind) => check(text, tokens, from, kind),
-        Item::Star(kind) => check_star(text, tokens, from, kind),
-        Item::Maybe(kind) => check_maybe(text, tokens, from, kind),
-        Item::Until(kind) => check_until(text, tokens, from, kind),
+        Symbol::Body => check_body(text, tokens, from),
+        Symbol::One(kind) => check(text, tokens, from, kind),
+        Symbol::Star(kind) => check_star(text, tokens, from, kind),
+        Symbol::Maybe(kind) => check_maybe(text, tokens, from, kind),
+        Symbol::Until(kind) => check_until(text, tokens, from, kind),
     }
 }
 
@@ -114,7 +119,7 @@ fn check_tail(text: &[u8], tokens: &[Token], from: usize) -> Result<usize, Halt>
     match token_at(text, tokens, from) {
         Some(token) => match token.mark {
             Mark::Lang => Ok(from + 1),
-            Mark::Carets => check(text, tokens, from + 1, Kind::Name),
+            Mark::Carets => check(text, tokens, from + 1, Nonterminal::Name),
             _ => Ok(from),
         },
         None => Ok(from),
@@ -133,8 +138,8 @@ fn check_filler(text: &[u8], tokens: &[Token], from: usize) -> Result<usize, Hal
             if is_name(text, token) {
                 check_end(text, tokens, from + 1)
             } else {
-                let at = check(text, tokens, from, Kind::Range)?;
-                check_sign(text, tokens, at, Item::Right)
+                let at = check(text, tokens, from, Nonterminal::Range)?;
+                check_sign(text, tokens, at, Symbol::Right)
             }
         }
         None => Err(Halt {
@@ -152,10 +157,10 @@ fn check_end(text: &[u8], tokens: &[Token], from: usize) -> Result<usize, Halt>
 {
     match token_at(text, tokens, from) {
         Some(token) => {
-            if is_sign(text, token, Item::Right) {
+            if is_sign(text, token, Symbol::Right) {
                 Ok(from + 1)
             } else {
-                let wide = is_name(text, token) || row(text, token, Kind::Range).is_some();
+                let wide = is_name(text, token) || row(text, token, Nonterminal::Range).is_some();
                 Err(Halt { token: from, wide })
             }
         }
@@ -181,8 +186,8 @@ fn check_body(text: &[u8], tokens: &[Token], from: usize) -> Result<usize, Halt>
                     wide: true,
                 })
             } else {
-                let at = check_star(text, tokens, from, Kind::Note)?;
-                check_until(text, tokens, at, Kind::Axiom)
+                let at = check_star(text, tokens, from, Nonterminal::Note)?;
+                check_until(text, tokens, at, Nonterminal::Axiom)
             }
         }
         None => Err(Halt {
@@ -194,7 +199,7 @@ fn check_body(text: &[u8], tokens: &[Token], from: usize) -> Result<usize, Halt>
 
 /// Checks any number of phrases.
 #[cycle(check)]
-fn check_star(text: &[u8], tokens: &[Token], from: usize, kind: Kind) -> Result<usize, Halt>
+fn check_star(text: &[u8], tokens: &[Token], from: usize, kind: Nonterminal) -> Result<usize, Halt>
     requires tokens { AreTokensOf text.now tokens.now }
     requires from { from ≤ length tokens.now }
     ensures reads { Reads (lexemes text.now tokens.now) (it.Star kind ∷ []) from result }
@@ -211,7 +216,7 @@ fn check_star(text: &[u8], tokens: &[Token], from: usize, kind: Kind) -> Result<
 
 /// Checks a phrase that may be absent.
 #[cycle(check)]
-fn check_maybe(text: &[u8], tokens: &[Token], from: usize, kind: Kind) -> Result<usize, Halt>
+fn check_maybe(text: &[u8], tokens: &[Token], from: usize, kind: Nonterminal) -> Result<usize, Halt>
     requires tokens { AreTokensOf text.now tokens.now }
     requires from { from ≤ length tokens.now }
     ensures reads { Reads (lexemes text.now tokens.now) (it.Maybe kind ∷ []) from result }
@@ -227,7 +232,7 @@ fn check_maybe(text: &[u8], tokens: &[Token], from: usize, kind: Kind) -> Result
 
 /// Checks any number of phrases, and the parenthesis behind them.
 #[cycle(check)]
-fn check_until(text: &[u8], tokens: &[Token], from: usize, kind: Kind) -> Result<usize, Halt>
+fn check_until(text: &[u8], tokens: &[Token], from: usize, kind: Nonterminal) -> Result<usize, Halt>
     requires tokens { AreTokensOf text.now tokens.now }
     requires from { from ≤ length tokens.now }
     ensures reads { Reads (lexemes text.now tokens.now) (it.Until kind ∷ []) from result }
@@ -235,13 +240,14 @@ fn check_until(text: &[u8], tokens: &[Token], from: usize, kind: Kind) -> Result
 {
     let mut at = from;
     while let Some(token) = token_at(text, tokens, at) {
-        if is_sign(text, token, Item::Right) {
+        if is_sign(text, token, Symbol::Right) {
             return Ok(at + 1);
         }
         at = check(text, tokens, at, kind)?;
     }
-    Err(Halt {
+    let end = Halt {
         token: at,
         wide: false,
-    })
+    };
+    Err(end)
 }

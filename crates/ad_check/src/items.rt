@@ -1,6 +1,6 @@
-/// A kind of phrase.
-#[derive(Clone, Copy, Debug, PartialEq, Eq)]
-pub enum Kind {
+/// A nonterminal of the grammar: a kind of phrase.
+#[derive(Clone, Copy)]
+pub enum Nonterminal {
     Name,
     Number,
     Property,
@@ -26,9 +26,9 @@ pub enum Kind {
     Ontology,
 }
 
-/// What may stand next in a text.
-#[derive(Clone, Copy, Debug, PartialEq, Eq)]
-pub enum Item {
+/// A symbol of the grammar: what may stand next in a text.
+#[derive(Clone, Copy)]
+pub enum Symbol {
     Left,
     Right,
     Equals,
@@ -46,24 +46,24 @@ pub enum Item {
     Any,
     /// The annotations and axioms of an ontology, up to the parenthesis that closes it.
     Body,
-    One(Kind),
+    One(Nonterminal),
     /// Any number of phrases.
-    Star(Kind),
+    Star(Nonterminal),
     /// A phrase, or none.
-    Maybe(Kind),
+    Maybe(Nonterminal),
     /// Any number of phrases, and the parenthesis that closes them.
-    Until(Kind),
+    Until(Nonterminal),
 }
 
-/// A keyword, and what stands behind it.
-#[derive(Clone, Copy, Debug)]
-pub struct Row {
+/// A production of the grammar: a keyword, and what stands behind it.
+#[derive(Clone, Copy)]
+pub struct Production {
     pub word: &'static str,
-    pub items: &'static [Item],
+    pub items: &'static [Symbol],
 }
 
 /// Where a text stops, and whether it goes on there in the wide grammar.
-#[derive(Clone, Copy, Debug, PartialEq, Eq)]
+#[derive(Clone, Copy)]
 pub struct Halt {
     pub token: usize,
     pub wide: bool,

@@ -4,8 +4,8 @@
 pub use depth::nesting;
 pub use laws::{fault_is_in_none, nesting_of_fronts, one_first_fault, spelled_is_accepted};
 pub use texts::{
-    Stop, Unsupported, check_axiom, check_class, check_document, check_edit, check_individual,
-    check_literal, check_objprop, check_range, check_seed,
+    Phrase, Stop, Unsupported, check_axiom, check_class, check_document, check_edit,
+    check_individual, check_literal, check_objprop, check_phrase, check_range, check_seed,
 };
 
 mod check;
@@ -13,7 +13,5 @@ mod depth;
 mod items;
 mod laws;
 mod rows;
-#[cfg(test)]
-mod tests;
 mod texts;
 mod tokens;

@@ -3,613 +3,138 @@ ghost use Rattle.std.specs.Option.{option_copied};
 ghost use Rattle.ad_check.specs.Machine.{lookup, entry_of, plain_table};
 ghost use Rattle.ad_check.specs.Machine as machine;
 
-use crate::items::{Item, Kind, Row};
+use crate::items::Nonterminal::{
+    Axiom, Class, Entity, Facet, Individual, Link, Literal, Name, Note, Number, Property, Range,
+    Subject, Value,
+};
+use crate::items::Symbol::{
+    Body, Equals, Filler, Full, Label, Left, Maybe, One, Right, Star, Until,
+};
+use crate::items::{Nonterminal, Production, Symbol};
+use ad_write::keywords;
 
-static PROPERTY: [Row; 1] = [Row {
-    word: "ObjectInverseOf",
-    items: &[Item::Left, Item::One(Kind::Name), Item::Right],
-}];
-
-static CHAIN: [Row; 1] = [Row {
-    word: "ObjectPropertyChain",
-    items: &[
-        Item::Left,
-        Item::One(Kind::Property),
-        Item::Until(Kind::Property),
-    ],
-}];
-
-static RANGE: [Row; 5] = [
-    Row {
-        word: "DataIntersectionOf",
-        items: &[Item::Left, Item::One(Kind::Range), Item::Until(Kind::Range)],
-    },
-    Row {
-        word: "DataUnionOf",
-        items: &[Item::Left, Item::One(Kind::Range), Item::Until(Kind::Range)],
-    },
-    Row {
-        word: "DataComplementOf",
-        items: &[Item::Left, Item::One(Kind::Range), Item::Right],
-    },
-    Row {
-        word: "DataOneOf",
-        items: &[
-            Item::Left,
-            Item::One(Kind::Literal),
-            Item::Until(Kind::Literal),
-        ],
-    },
-    Row {
-        word: "DatatypeRestriction",
-        items: &[
-            Item::Left,
-            Item::One(Kind::Name),
-            Item::One(Kind::Facet),
-            Item::Until(Kind::Facet),
-        ],
-    },
+/// An object property that begins with a keyword.
+#[rattlefmt::skip]
+static PROPERTY: [Production; 1] = [
+    Production { word: keywords::OBJECT_INVERSE_OF, items: &[Left, One(Name), Right] },
 ];
 
-static CLASS: [Row; 17] = [
-    Row {
-        word: "ObjectIntersectionOf",
-        items: &[Item::Left, Item::One(Kind::Class), Item::Until(Kind::Class)],
-    },
-    Row {
-        word: "ObjectUnionOf",
-        items: &[Item::Left, Item::One(Kind::Class), Item::Until(Kind::Class)],
-    },
-    Row {
-        word: "ObjectComplementOf",
-        items: &[Item::Left, Item::One(Kind::Class), Item::Right],
-    },
-    Row {
-        word: "ObjectOneOf",
-        items: &[
-            Item::Left,
-            Item::One(Kind::Individual),
-            Item::Until(Kind::Individual),
-        ],
-    },
-    Row {
-        word: "ObjectSomeValuesFrom",
-        items: &[
-            Item::Left,
-            Item::One(Kind::Property),
-            Item::One(Kind::Class),
-            Item::Right,
-        ],
-    },
-    Row {
-        word: "ObjectAllValuesFrom",
-        items: &[
-            Item::Left,
-            Item::One(Kind::Property),
-            Item::One(Kind::Class),
-            Item::Right,
-        ],
-    },
-    Row {
-        word: "ObjectHasValue",
-        items: &[
-            Item::Left,
-            Item::One(Kind::Property),
-            Item::One(Kind::Individual),
-            Item::Right,
-        ],
-    },
-    Row {
-        word: "ObjectHasSelf",
-        items: &[Item::Left, Item::One(Kind::Property), Item::Right],
-    },
-    Row {
-        word: "ObjectMinCardinality",
-        items: &[
-            Item::Left,
-            Item::One(Kind::Number),
-            Item::One(Kind::Property),
-            Item::Maybe(Kind::Class),
-            Item::Right,
-        ],
-    },
-    Row {
-        word: "ObjectMaxCardinality",
-        items: &[
-            Item::Left,
-            Item::One(Kind::Number),
-            Item::One(Kind::Property),
-            Item::Maybe(Kind::Class),
-            Item::Right,
-        ],
-    },
-    Row {
-        word: "ObjectExactCardinality",
-        items: &[
-            Item::Left,
-            Item::One(Kind::Number),
-            Item::One(Kind::Property),
-            Item::Maybe(Kind::Class),
-            Item::Right,
-        ],
-    },
-    Row {
-        word: "DataSomeValuesFrom",
-        items: &[Item::Left, Item::One(Kind::Name), Item::Filler],
-    },
-    Row {
-        word: "DataAllValuesFrom",
-        items: &[Item::Left, Item::One(Kind::Name), Item::Filler],
-    },
-    Row {
-        word: "DataHasValue",
-        items: &[
-            Item::Left,
-            Item::One(Kind::Name),
-            Item::One(Kind::Literal),
-            Item::Right,
-        ],
-    },
-    Row {
-        word: "DataMinCardinality",
-        items: &[
-            Item::Left,
-            Item::One(Kind::Number),
-            Item::One(Kind::Name),
-            Item::Maybe(Kind::Range),
-            Item::Right,
-        ],
-    },
-    Row {
-        word: "DataMaxCardinality",
-        items: &[
-            Item::Left,
-            Item::One(Kind::Number),
-            Item::One(Kind::Name),
-            Item::Maybe(Kind::Range),
-            Item::Right,
-        ],
-    },
-    Row {
-        word: "DataExactCardinality",
-        items: &[
-            Item::Left,
-            Item::One(Kind::Number),
-            Item::One(Kind::Name),
-            Item::Maybe(Kind::Range),
-            Item::Right,
-        ],
-    },
+/// A chain of object properties.
+#[rattlefmt::skip]
+static CHAIN: [Production; 1] = [
+    Production { word: keywords::OBJECT_PROPERTY_CHAIN, items: &[Left, One(Property), Until(Property)] },
 ];
 
-static NOTE: [Row; 1] = [Row {
-    word: "Annotation",
-    items: &[
-        Item::Left,
-        Item::Star(Kind::Note),
-        Item::One(Kind::Name),
-        Item::One(Kind::Value),
-        Item::Right,
-    ],
-}];
-
-static ENTITY: [Row; 6] = [
-    Row {
-        word: "Class",
-        items: &[Item::Left, Item::One(Kind::Name), Item::Right],
-    },
-    Row {
-        word: "Datatype",
-        items: &[Item::Left, Item::One(Kind::Name), Item::Right],
-    },
-    Row {
-        word: "ObjectProperty",
-        items: &[Item::Left, Item::One(Kind::Name), Item::Right],
-    },
-    Row {
-        word: "DataProperty",
-        items: &[Item::Left, Item::One(Kind::Name), Item::Right],
-    },
-    Row {
-        word: "AnnotationProperty",
-        items: &[Item::Left, Item::One(Kind::Name), Item::Right],
-    },
-    Row {
-        word: "NamedIndividual",
-        items: &[Item::Left, Item::One(Kind::Name), Item::Right],
-    },
+/// Data ranges.
+#[rattlefmt::skip]
+static RANGE: [Production; 5] = [
+    Production { word: keywords::DATA_INTERSECTION_OF, items: &[Left, One(Range), Until(Range)] },
+    Production { word: keywords::DATA_UNION_OF, items: &[Left, One(Range), Until(Range)] },
+    Production { word: keywords::DATA_COMPLEMENT_OF, items: &[Left, One(Range), Right] },
+    Production { word: keywords::DATA_ONE_OF, items: &[Left, One(Literal), Until(Literal)] },
+    Production { word: keywords::DATATYPE_RESTRICTION, items: &[Left, One(Name), One(Facet), Until(Facet)] },
 ];
 
-static LOGICAL: [Row; 32] = [
-    Row {
-        word: "SubClassOf",
-        items: &[
-            Item::Left,
-            Item::Star(Kind::Note),
-            Item::One(Kind::Class),
-            Item::One(Kind::Class),
-            Item::Right,
-        ],
-    },
-    Row {
-        word: "EquivalentClasses",
-        items: &[
-            Item::Left,
-            Item::Star(Kind::Note),
-            Item::One(Kind::Class),
-            Item::Until(Kind::Class),
-        ],
-    },
-    Row {
-        word: "DisjointClasses",
-        items: &[
-            Item::Left,
-            Item::Star(Kind::Note),
-            Item::One(Kind::Class),
-            Item::Until(Kind::Class),
-        ],
-    },
-    Row {
-        word: "DisjointUnion",
-        items: &[
-            Item::Left,
-            Item::Star(Kind::Note),
-            Item::One(Kind::Name),
-            Item::One(Kind::Class),
-            Item::Until(Kind::Class),
-        ],
-    },
-    Row {
-        word: "SubObjectPropertyOf",
-        items: &[
-            Item::Left,
-            Item::Star(Kind::Note),
-            Item::One(Kind::Link),
-            Item::One(Kind::Property),
-            Item::Right,
-        ],
-    },
-    Row {
-        word: "EquivalentObjectProperties",
-        items: &[
-            Item::Left,
-            Item::Star(Kind::Note),
-            Item::One(Kind::Property),
-            Item::Until(Kind::Property),
-        ],
-    },
-    Row {
-        word: "DisjointObjectProperties",
-        items: &[
-            Item::Left,
-            Item::Star(Kind::Note),
-            Item::One(Kind::Property),
-            Item::Until(Kind::Property),
-        ],
-    },
-    Row {
-        word: "InverseObjectProperties",
-        items: &[
-            Item::Left,
-            Item::Star(Kind::Note),
-            Item::One(Kind::Property),
-            Item::One(Kind::Property),
-            Item::Right,
-        ],
-    },
-    Row {
-        word: "ObjectPropertyDomain",
-        items: &[
-            Item::Left,
-            Item::Star(Kind::Note),
-            Item::One(Kind::Property),
-            Item::One(Kind::Class),
-            Item::Right,
-        ],
-    },
-    Row {
-        word: "ObjectPropertyRange",
-        items: &[
-            Item::Left,
-            Item::Star(Kind::Note),
-            Item::One(Kind::Property),
-            Item::One(Kind::Class),
-            Item::Right,
-        ],
-    },
-    Row {
-        word: "FunctionalObjectProperty",
-        items: &[
-            Item::Left,
-            Item::Star(Kind::Note),
-            Item::One(Kind::Property),
-            Item::Right,
-        ],
-    },
-    Row {
-        word: "InverseFunctionalObjectProperty",
-        items: &[
-            Item::Left,
-            Item::Star(Kind::Note),
-            Item::One(Kind::Property),
-            Item::Right,
-        ],
-    },
-    Row {
-        word: "ReflexiveObjectProperty",
-        items: &[
-            Item::Left,
-            Item::Star(Kind::Note),
-            Item::One(Kind::Property),
-            Item::Right,
-        ],
-    },
-    Row {
-        word: "IrreflexiveObjectProperty",
-        items: &[
-            Item::Left,
-            Item::Star(Kind::Note),
-            Item::One(Kind::Property),
-            Item::Right,
-        ],
-    },
-    Row {
-        word: "SymmetricObjectProperty",
-        items: &[
-            Item::Left,
-            Item::Star(Kind::Note),
-            Item::One(Kind::Property),
-            Item::Right,
-        ],
-    },
-    Row {
-        word: "AsymmetricObjectProperty",
-        items: &[
-            Item::Left,
-            Item::Star(Kind::Note),
-            Item::One(Kind::Property),
-            Item::Right,
-        ],
-    },
-    Row {
-        word: "TransitiveObjectProperty",
-        items: &[
-            Item::Left,
-            Item::Star(Kind::Note),
-            Item::One(Kind::Property),
-            Item::Right,
-        ],
-    },
-    Row {
-        word: "SubDataPropertyOf",
-        items: &[
-            Item::Left,
-            Item::Star(Kind::Note),
-            Item::One(Kind::Name),
-            Item::One(Kind::Name),
-            Item::Right,
-        ],
-    },
-    Row {
-        word: "EquivalentDataProperties",
-        items: &[
-            Item::Left,
-            Item::Star(Kind::Note),
-            Item::One(Kind::Name),
-            Item::Until(Kind::Name),
-        ],
-    },
-    Row {
-        word: "DisjointDataProperties",
-        items: &[
-            Item::Left,
-            Item::Star(Kind::Note),
-            Item::One(Kind::Name),
-            Item::Until(Kind::Name),
-        ],
-    },
-    Row {
-        word: "DataPropertyDomain",
-        items: &[
-            Item::Left,
-            Item::Star(Kind::Note),
-            Item::One(Kind::Name),
-            Item::One(Kind::Class),
-            Item::Right,
-        ],
-    },
-    Row {
-        word: "DataPropertyRange",
-        items: &[
-            Item::Left,
-            Item::Star(Kind::Note),
-            Item::One(Kind::Name),
-            Item::One(Kind::Range),
-            Item::Right,
-        ],
-    },
-    Row {
-        word: "FunctionalDataProperty",
-        items: &[
-            Item::Left,
-            Item::Star(Kind::Note),
-            Item::One(Kind::Name),
-            Item::Right,
-        ],
-    },
-    Row {
-        word: "DatatypeDefinition",
-        items: &[
-            Item::Left,
-            Item::Star(Kind::Note),
-            Item::One(Kind::Name),
-            Item::One(Kind::Range),
-            Item::Right,
-        ],
-    },
-    Row {
-        word: "HasKey",
-        items: &[
-            Item::Left,
-            Item::Star(Kind::Note),
-            Item::One(Kind::Class),
-            Item::Left,
-            Item::Until(Kind::Property),
-            Item::Left,
-            Item::Until(Kind::Name),
-            Item::Right,
-        ],
-    },
-    Row {
-        word: "SameIndividual",
-        items: &[
-            Item::Left,
-            Item::Star(Kind::Note),
-            Item::One(Kind::Individual),
-            Item::Until(Kind::Individual),
-        ],
-    },
-    Row {
-        word: "DifferentIndividuals",
-        items: &[
-            Item::Left,
-            Item::Star(Kind::Note),
-            Item::One(Kind::Individual),
-            Item::Until(Kind::Individual),
-        ],
-    },
-    Row {
-        word: "ClassAssertion",
-        items: &[
-            Item::Left,
-            Item::Star(Kind::Note),
-            Item::One(Kind::Class),
-            Item::One(Kind::Individual),
-            Item::Right,
-        ],
-    },
-    Row {
-        word: "ObjectPropertyAssertion",
-        items: &[
-            Item::Left,
-            Item::Star(Kind::Note),
-            Item::One(Kind::Property),
-            Item::One(Kind::Individual),
-            Item::One(Kind::Individual),
-            Item::Right,
-        ],
-    },
-    Row {
-        word: "NegativeObjectPropertyAssertion",
-        items: &[
-            Item::Left,
-            Item::Star(Kind::Note),
-            Item::One(Kind::Property),
-            Item::One(Kind::Individual),
-            Item::One(Kind::Individual),
-            Item::Right,
-        ],
-    },
-    Row {
-        word: "DataPropertyAssertion",
-        items: &[
-            Item::Left,
-            Item::Star(Kind::Note),
-            Item::One(Kind::Name),
-            Item::One(Kind::Individual),
-            Item::One(Kind::Literal),
-            Item::Right,
-        ],
-    },
-    Row {
-        word: "NegativeDataPropertyAssertion",
-        items: &[
-            Item::Left,
-            Item::Star(Kind::Note),
-            Item::One(Kind::Name),
-            Item::One(Kind::Individual),
-            Item::One(Kind::Literal),
-            Item::Right,
-        ],
-    },
+/// Class expressions.
+#[rattlefmt::skip]
+static CLASS: [Production; 17] = [
+    Production { word: keywords::OBJECT_INTERSECTION_OF, items: &[Left, One(Class), Until(Class)] },
+    Production { word: keywords::OBJECT_UNION_OF, items: &[Left, One(Class), Until(Class)] },
+    Production { word: keywords::OBJECT_COMPLEMENT_OF, items: &[Left, One(Class), Right] },
+    Production { word: keywords::OBJECT_ONE_OF, items: &[Left, One(Individual), Until(Individual)] },
+    Production { word: keywords::OBJECT_SOME_VALUES_FROM, items: &[Left, One(Property), One(Class), Right] },
+    Production { word: keywords::OBJECT_ALL_VALUES_FROM, items: &[Left, One(Property), One(Class), Right] },
+    Production { word: keywords::OBJECT_HAS_VALUE, items: &[Left, One(Property), One(Individual), Right] },
+    Production { word: keywords::OBJECT_HAS_SELF, items: &[Left, One(Property), Right] },
+    Production { word: keywords::OBJECT_MIN_CARDINALITY, items: &[Left, One(Number), One(Property), Maybe(Class), Right] },
+    Production { word: keywords::OBJECT_MAX_CARDINALITY, items: &[Left, One(Number), One(Property), Maybe(Class), Right] },
+    Production { word: keywords::OBJECT_EXACT_CARDINALITY, items: &[Left, One(Number), One(Property), Maybe(Class), Right] },
+    Production { word: keywords::DATA_SOME_VALUES_FROM, items: &[Left, One(Name), Filler] },
+    Production { word: keywords::DATA_ALL_VALUES_FROM, items: &[Left, One(Name), Filler] },
+    Production { word: keywords::DATA_HAS_VALUE, items: &[Left, One(Name), One(Literal), Right] },
+    Production { word: keywords::DATA_MIN_CARDINALITY, items: &[Left, One(Number), One(Name), Maybe(Range), Right] },
+    Production { word: keywords::DATA_MAX_CARDINALITY, items: &[Left, One(Number), One(Name), Maybe(Range), Right] },
+    Production { word: keywords::DATA_EXACT_CARDINALITY, items: &[Left, One(Number), One(Name), Maybe(Range), Right] },
 ];
 
-static CARRIED: [Row; 5] = [
-    Row {
-        word: "Declaration",
-        items: &[
-            Item::Left,
-            Item::Star(Kind::Note),
-            Item::One(Kind::Entity),
-            Item::Right,
-        ],
-    },
-    Row {
-        word: "AnnotationAssertion",
-        items: &[
-            Item::Left,
-            Item::Star(Kind::Note),
-            Item::One(Kind::Name),
-            Item::One(Kind::Subject),
-            Item::One(Kind::Value),
-            Item::Right,
-        ],
-    },
-    Row {
-        word: "SubAnnotationPropertyOf",
-        items: &[
-            Item::Left,
-            Item::Star(Kind::Note),
-            Item::One(Kind::Name),
-            Item::One(Kind::Name),
-            Item::Right,
-        ],
-    },
-    Row {
-        word: "AnnotationPropertyDomain",
-        items: &[
-            Item::Left,
-            Item::Star(Kind::Note),
-            Item::One(Kind::Name),
-            Item::One(Kind::Name),
-            Item::Right,
-        ],
-    },
-    Row {
-        word: "AnnotationPropertyRange",
-        items: &[
-            Item::Left,
-            Item::Star(Kind::Note),
-            Item::One(Kind::Name),
-            Item::One(Kind::Name),
-            Item::Right,
-        ],
-    },
+/// Annotations.
+#[rattlefmt::skip]
+static NOTE: [Production; 1] = [
+    Production { word: keywords::ANNOTATION, items: &[Left, Star(Note), One(Name), One(Value), Right] },
 ];
 
-static PREFIX: [Row; 1] = [Row {
-    word: "Prefix",
-    items: &[
-        Item::Left,
-        Item::Label,
-        Item::Equals,
-        Item::Full,
-        Item::Right,
-    ],
-}];
+/// Entities.
+#[rattlefmt::skip]
+static ENTITY: [Production; 6] = [
+    Production { word: keywords::CLASS, items: &[Left, One(Name), Right] },
+    Production { word: keywords::DATATYPE, items: &[Left, One(Name), Right] },
+    Production { word: keywords::OBJECT_PROPERTY, items: &[Left, One(Name), Right] },
+    Production { word: keywords::DATA_PROPERTY, items: &[Left, One(Name), Right] },
+    Production { word: keywords::ANNOTATION_PROPERTY, items: &[Left, One(Name), Right] },
+    Production { word: keywords::NAMED_INDIVIDUAL, items: &[Left, One(Name), Right] },
+];
 
-static ONTOLOGY: [Row; 1] = [Row {
-    word: "Ontology",
-    items: &[
-        Item::Left,
-        Item::Maybe(Kind::Name),
-        Item::Maybe(Kind::Name),
-        Item::Body,
-    ],
-}];
+/// Logical axioms.
+#[rattlefmt::skip]
+static LOGICAL: [Production; 32] = [
+    Production { word: keywords::SUB_CLASS_OF, items: &[Left, Star(Note), One(Class), One(Class), Right] },
+    Production { word: keywords::EQUIVALENT_CLASSES, items: &[Left, Star(Note), One(Class), Until(Class)] },
+    Production { word: keywords::DISJOINT_CLASSES, items: &[Left, Star(Note), One(Class), Until(Class)] },
+    Production { word: keywords::DISJOINT_UNION, items: &[Left, Star(Note), One(Name), One(Class), Until(Class)] },
+    Production { word: keywords::SUB_OBJECT_PROPERTY_OF, items: &[Left, Star(Note), One(Link), One(Property), Right] },
+    Production { word: keywords::EQUIVALENT_OBJECT_PROPERTIES, items: &[Left, Star(Note), One(Property), Until(Property)] },
+    Production { word: keywords::DISJOINT_OBJECT_PROPERTIES, items: &[Left, Star(Note), One(Property), Until(Property)] },
+    Production { word: keywords::INVERSE_OBJECT_PROPERTIES, items: &[Left, Star(Note), One(Property), One(Property), Right] },
+    Production { word: keywords::OBJECT_PROPERTY_DOMAIN, items: &[Left, Star(Note), One(Property), One(Class), Right] },
+    Production { word: keywords::OBJECT_PROPERTY_RANGE, items: &[Left, Star(Note), One(Property), One(Class), Right] },
+    Production { word: keywords::FUNCTIONAL_OBJECT_PROPERTY, items: &[Left, Star(Note), One(Property), Right] },
+    Production { word: keywords::INVERSE_FUNCTIONAL_OBJECT_PROPERTY, items: &[Left, Star(Note), One(Property), Right] },
+    Production { word: keywords::REFLEXIVE_OBJECT_PROPERTY, items: &[Left, Star(Note), One(Property), Right] },
+    Production { word: keywords::IRREFLEXIVE_OBJECT_PROPERTY, items: &[Left, Star(Note), One(Property), Right] },
+    Production { word: keywords::SYMMETRIC_OBJECT_PROPERTY, items: &[Left, Star(Note), One(Property), Right] },
+    Production { word: keywords::ASYMMETRIC_OBJECT_PROPERTY, items: &[Left, Star(Note), One(Property), Right] },
+    Production { word: keywords::TRANSITIVE_OBJECT_PROPERTY, items: &[Left, Star(Note), One(Property), Right] },
+    Production { word: keywords::SUB_DATA_PROPERTY_OF, items: &[Left, Star(Note), One(Name), One(Name), Right] },
+    Production { word: keywords::EQUIVALENT_DATA_PROPERTIES, items: &[Left, Star(Note), One(Name), Until(Name)] },
+    Production { word: keywords::DISJOINT_DATA_PROPERTIES, items: &[Left, Star(Note), One(Name), Until(Name)] },
+    Production { word: keywords::DATA_PROPERTY_DOMAIN, items: &[Left, Star(Note), One(Name), One(Class), Right] },
+    Production { word: keywords::DATA_PROPERTY_RANGE, items: &[Left, Star(Note), One(Name), One(Range), Right] },
+    Production { word: keywords::FUNCTIONAL_DATA_PROPERTY, items: &[Left, Star(Note), One(Name), Right] },
+    Production { word: keywords::DATATYPE_DEFINITION, items: &[Left, Star(Note), One(Name), One(Range), Right] },
+    Production { word: keywords::HAS_KEY, items: &[Left, Star(Note), One(Class), Left, Until(Property), Left, Until(Name), Right] },
+    Production { word: keywords::SAME_INDIVIDUAL, items: &[Left, Star(Note), One(Individual), Until(Individual)] },
+    Production { word: keywords::DIFFERENT_INDIVIDUALS, items: &[Left, Star(Note), One(Individual), Until(Individual)] },
+    Production { word: keywords::CLASS_ASSERTION, items: &[Left, Star(Note), One(Class), One(Individual), Right] },
+    Production { word: keywords::OBJECT_PROPERTY_ASSERTION, items: &[Left, Star(Note), One(Property), One(Individual), One(Individual), Right] },
+    Production { word: keywords::NEGATIVE_OBJECT_PROPERTY_ASSERTION, items: &[Left, Star(Note), One(Property), One(Individual), One(Individual), Right] },
+    Production { word: keywords::DATA_PROPERTY_ASSERTION, items: &[Left, Star(Note), One(Name), One(Individual), One(Literal), Right] },
+    Production { word: keywords::NEGATIVE_DATA_PROPERTY_ASSERTION, items: &[Left, Star(Note), One(Name), One(Individual), One(Literal), Right] },
+];
+
+/// Axioms that are carried.
+#[rattlefmt::skip]
+static CARRIED: [Production; 5] = [
+    Production { word: keywords::DECLARATION, items: &[Left, Star(Note), One(Entity), Right] },
+    Production { word: keywords::ANNOTATION_ASSERTION, items: &[Left, Star(Note), One(Name), One(Subject), One(Value), Right] },
+    Production { word: keywords::SUB_ANNOTATION_PROPERTY_OF, items: &[Left, Star(Note), One(Name), One(Name), Right] },
+    Production { word: keywords::ANNOTATION_PROPERTY_DOMAIN, items: &[Left, Star(Note), One(Name), One(Name), Right] },
+    Production { word: keywords::ANNOTATION_PROPERTY_RANGE, items: &[Left, Star(Note), One(Name), One(Name), Right] },
+];
+
+/// Prefix declarations.
+#[rattlefmt::skip]
+static PREFIX: [Production; 1] = [
+    Production { word: keywords::PREFIX, items: &[Left, Label, Equals, Full, Right] },
+];
+
+/// Ontologies.
+#[rattlefmt::skip]
+static ONTOLOGY: [Production; 1] = [
+    Production { word: keywords::ONTOLOGY, items: &[Left, Maybe(Name), Maybe(Name), Body] },
+];
 
 /// The row of a keyword.
-fn row_of(rows: &[Row], word: &str) -> Option<&'static [Item]>
+fn row_of(rows: &[Production], word: &str) -> Option<&'static [Symbol]>
     ensures { option_copied result ≡ lookup (map entry_of rows.now) word.now }
 {
     for row in rows {
@@ -621,27 +146,27 @@ fn row_of(rows: &[Row], word: &str) -> Option<&'static [Item]>
 }
 
 /// The row of a keyword at which a phrase may begin.
-pub(crate) fn keyword_row(kind: Kind, word: &str) -> Option<&'static [Item]>
+pub(crate) fn keyword_row(kind: Nonterminal, word: &str) -> Option<&'static [Symbol]>
     ensures { option_copied result ≡ lookup (plain_table kind) word.now }
 {
     match kind {
-        Kind::Property => row_of(&PROPERTY, word),
-        Kind::Link => row_of(&PROPERTY, word).or(row_of(&CHAIN, word)),
-        Kind::Range => row_of(&RANGE, word),
-        Kind::Class => row_of(&CLASS, word),
-        Kind::Note => row_of(&NOTE, word),
-        Kind::Entity => row_of(&ENTITY, word),
-        Kind::Axiom => row_of(&LOGICAL, word).or(row_of(&CARRIED, word)),
-        Kind::Logical => row_of(&LOGICAL, word),
-        Kind::Prefix => row_of(&PREFIX, word),
-        Kind::Ontology => row_of(&ONTOLOGY, word),
-        Kind::Name
-        | Kind::Number
-        | Kind::Individual
-        | Kind::Literal
-        | Kind::Facet
-        | Kind::Subject
-        | Kind::Value
-        | Kind::Signed => None,
+        Nonterminal::Property => row_of(&PROPERTY, word),
+        Nonterminal::Link => row_of(&PROPERTY, word).or(row_of(&CHAIN, word)),
+        Nonterminal::Range => row_of(&RANGE, word),
+        Nonterminal::Class => row_of(&CLASS, word),
+        Nonterminal::Note => row_of(&NOTE, word),
+        Nonterminal::Entity => row_of(&ENTITY, word),
+        Nonterminal::Axiom => row_of(&LOGICAL, word).or(row_of(&CARRIED, word)),
+        Nonterminal::Logical => row_of(&LOGICAL, word),
+        Nonterminal::Prefix => row_of(&PREFIX, word),
+        Nonterminal::Ontology => row_of(&ONTOLOGY, word),
+        Nonterminal::Name
+        | Nonterminal::Number
+        | Nonterminal::Individual
+        | Nonterminal::Literal
+        | Nonterminal::Facet
+        | Nonterminal::Subject
+        | Nonterminal::Value
+        | Nonterminal::Signed => None,
     }
 }

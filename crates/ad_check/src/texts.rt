@@ -4,12 +4,13 @@ ghost use Rattle.ad_lex.specs.Spans.{AreTokensOf, IsTokenOf};
 ghost use Rattle.ad_grammar.specs.Faults.{Form, IsOf, IsFirstFault, IsLongest, IsNoPhrase};
 ghost use Rattle.ad_grammar.specs.Faults as form;
 ghost use Rattle.ad_grammar.specs.Nesting.{nesting};
+ghost use Rattle.ad_base.specs.Limits.{standard};
 ghost use Rattle.ad_check.specs.Machine.{start};
-ghost use Rattle.ad_check.specs.declared.items.Item.TheVariants as it;
-ghost use Rattle.ad_check.specs.Stops.{IsAddition, Names, Says, Checks, ChecksFrom};
+ghost use Rattle.ad_check.specs.declared.items.Symbol.TheVariants as it;
+ghost use Rattle.ad_check.specs.Stops.{IsAddition, Names, Says, Checks, ChecksFrom, form_of};
 
 use crate::check::{check, check_items};
-use crate::items::{Halt, Item, Kind};
+use crate::items::{Halt, Nonterminal, Symbol};
 use crate::tokens::{is_import, is_rule};
 use ad_lex::{Token, Tokens};
 
@@ -26,7 +27,7 @@ pub enum Unsupported {
 
 /// The first token at which no text goes on, where the end of the text is one more, and the part of
 /// the wide grammar that goes on there, if one does.
-#[derive(Clone, Copy, Debug, PartialEq, Eq)]
+#[derive(Clone, Copy)]
 pub struct Stop {
     pub token: u32,
     pub what: Option<Unsupported>,
@@ -67,7 +68,7 @@ fn stop_of(text: &[u8], tokens: &[Token], halt: Halt) -> Stop
 }
 
 /// Checks a whole text.
-fn check_text(text: &[u8], tokens: &[Token], items: &[Item]) -> Result<(), Stop>
+fn check_text(text: &[u8], tokens: &[Token], items: &[Symbol]) -> Result<(), Stop>
     requires tokens { AreTokensOf text.now tokens.now }
     requires few { length tokens.now < 2 ^ 32 }
     ensures { (f : Form) → items.now ≡ start f → Checks f (lexemes text.now tokens.now) result }
@@ -92,7 +93,7 @@ fn check_text(text: &[u8], tokens: &[Token], items: &[Item]) -> Result<(), Stop>
 }
 
 /// Checks the longest phrase of a kind from a token on.
-fn check_phrase(text: &[u8], tokens: &[Token], from: u32, kind: Kind) -> Result<u32, Stop>
+fn longest(text: &[u8], tokens: &[Token], from: u32, kind: Nonterminal) -> Result<u32, Stop>
     requires tokens { AreTokensOf text.now tokens.now }
     requires few { length tokens.now < 2 ^ 32 }
     requires from { from ≤ length tokens.now }
@@ -103,11 +104,53 @@ fn check_phrase(text: &[u8], tokens: &[Token], from: u32, kind: Kind) -> Result<
         Err(halt) => Err(stop_of(text, tokens, halt)),
     }
 }
+
+/// A form of phrases that may stand alone.
+#[derive(Clone, Copy)]
+pub enum Phrase {
+    Class,
+    Range,
+    Property,
+    Individual,
+    Literal,
+}
+
+impl Phrase {
+    /// The kind of phrase that the table of rows has.
+    fn kind(self) -> Nonterminal
+        ensures { start (form_of self) ≡ it.One result ∷ [] }
+    {
+        match self {
+            Phrase::Class => Nonterminal::Class,
+            Phrase::Range => Nonterminal::Range,
+            Phrase::Property => Nonterminal::Property,
+            Phrase::Individual => Nonterminal::Individual,
+            Phrase::Literal => Nonterminal::Literal,
+        }
+    }
+}
+
+/// Checks that a phrase of this form begins at a token, and answers the token behind the longest one. A string that `^^`
+/// follows is no whole literal.
+pub fn check_phrase(text: &[u8], tokens: &Tokens, from: u32, phrase: Phrase) -> Result<u32, Stop>
+    requires tokens { AreTokensOf text.now tokens.now }
+    requires from { from ≤ length tokens.now }
+    requires nesting { nesting (drop from (lexemes text.now tokens.now)) ≤ standard.depth }
+    ensures after { IfOk result (λ to. from ≤ to) }
+    ensures longest { IfOk result (λ to. IsLongest (form_of phrase) (drop from (lexemes text.now tokens.now)) (to - from)) }
+    ensures none { IfErr result (λ stop. IsNoPhrase (form_of phrase) (drop from (lexemes text.now tokens.now))) }
+    ensures stop { IfErr result (λ stop. from ≤ stop.token) }
+    ensures first { IfErr result (λ stop. IsFirstFault (form_of phrase) (drop from (lexemes text.now tokens.now)) (stop.token - from)) }
+    ensures what { IfErr result (λ stop. Says (form_of phrase) (drop from (lexemes text.now tokens.now)) (stop.token - from) stop.what) }
+{
+    longest(text, tokens.list(), from, phrase.kind())
+}
+
 /// Checks that a class expression begins at a token, and answers the token behind the longest one.
 pub fn check_class(text: &[u8], tokens: &Tokens, from: u32) -> Result<u32, Stop>
     requires tokens { AreTokensOf text.now tokens.now }
     requires from { from ≤ length tokens.now }
-    requires nesting { nesting (drop from (lexemes text.now tokens.now)) ≤ 128 }
+    requires nesting { nesting (drop from (lexemes text.now tokens.now)) ≤ standard.depth }
     ensures after { IfOk result (λ to. from ≤ to) }
     ensures longest { IfOk result (λ to. IsLongest form.class (drop from (lexemes text.now tokens.now)) (to - from)) }
     ensures none { IfErr result (λ stop. IsNoPhrase form.class (drop from (lexemes text.now tokens.now))) }
@@ -115,14 +158,14 @@ pub fn check_class(text: &[u8], tokens: &Tokens, from: u32) -> Result<u32, Stop>
     ensures first { IfErr result (λ stop. IsFirstFault form.class (drop from (lexemes text.now tokens.now)) (stop.token - from)) }
     ensures what { IfErr result (λ stop. Says form.class (drop from (lexemes text.now tokens.now)) (stop.token - from) stop.what) }
 {
-    check_phrase(text, tokens.list(), from, Kind::Class)
+    check_phrase(text, tokens, from, Phrase::Class)
 }
 
 /// Checks that a data range begins at a token, and answers the token behind the longest one.
 pub fn check_range(text: &[u8], tokens: &Tokens, from: u32) -> Result<u32, Stop>
     requires tokens { AreTokensOf text.now tokens.now }
     requires from { from ≤ length tokens.now }
-    requires nesting { nesting (drop from (lexemes text.now tokens.now)) ≤ 128 }
+    requires nesting { nesting (drop from (lexemes text.now tokens.now)) ≤ standard.depth }
     ensures after { IfOk result (λ to. from ≤ to) }
     ensures longest { IfOk result (λ to. IsLongest form.range (drop from (lexemes text.now tokens.now)) (to - from)) }
     ensures none { IfErr result (λ stop. IsNoPhrase form.range (drop from (lexemes text.now tokens.now))) }
@@ -130,14 +173,14 @@ pub fn check_range(text: &[u8], tokens: &Tokens, from: u32) -> Result<u32, Stop>
     ensures first { IfErr result (λ stop. IsFirstFault form.range (drop from (lexemes text.now tokens.now)) (stop.token - from)) }
     ensures what { IfErr result (λ stop. Says form.range (drop from (lexemes text.now tokens.now)) (stop.token - from) stop.what) }
 {
-    check_phrase(text, tokens.list(), from, Kind::Range)
+    check_phrase(text, tokens, from, Phrase::Range)
 }
 
 /// Checks that an object property begins at a token, and answers the token behind the longest one.
 pub fn check_objprop(text: &[u8], tokens: &Tokens, from: u32) -> Result<u32, Stop>
     requires tokens { AreTokensOf text.now tokens.now }
     requires from { from ≤ length tokens.now }
-    requires nesting { nesting (drop from (lexemes text.now tokens.now)) ≤ 128 }
+    requires nesting { nesting (drop from (lexemes text.now tokens.now)) ≤ standard.depth }
     ensures after { IfOk result (λ to. from ≤ to) }
     ensures longest { IfOk result (λ to. IsLongest form.property (drop from (lexemes text.now tokens.now)) (to - from)) }
     ensures none { IfErr result (λ stop. IsNoPhrase form.property (drop from (lexemes text.now tokens.now))) }
@@ -145,14 +188,14 @@ pub fn check_objprop(text: &[u8], tokens: &Tokens, from: u32) -> Result<u32, Sto
     ensures first { IfErr result (λ stop. IsFirstFault form.property (drop from (lexemes text.now tokens.now)) (stop.token - from)) }
     ensures what { IfErr result (λ stop. Says form.property (drop from (lexemes text.now tokens.now)) (stop.token - from) stop.what) }
 {
-    check_phrase(text, tokens.list(), from, Kind::Property)
+    check_phrase(text, tokens, from, Phrase::Property)
 }
 
 /// Checks that an individual begins at a token, and answers the token behind the longest one.
 pub fn check_individual(text: &[u8], tokens: &Tokens, from: u32) -> Result<u32, Stop>
     requires tokens { AreTokensOf text.now tokens.now }
     requires from { from ≤ length tokens.now }
-    requires nesting { nesting (drop from (lexemes text.now tokens.now)) ≤ 128 }
+    requires nesting { nesting (drop from (lexemes text.now tokens.now)) ≤ standard.depth }
     ensures after { IfOk result (λ to. from ≤ to) }
     ensures longest { IfOk result (λ to. IsLongest form.individual (drop from (lexemes text.now tokens.now)) (to - from)) }
     ensures none { IfErr result (λ stop. IsNoPhrase form.individual (drop from (lexemes text.now tokens.now))) }
@@ -160,7 +203,7 @@ pub fn check_individual(text: &[u8], tokens: &Tokens, from: u32) -> Result<u32, 
     ensures first { IfErr result (λ stop. IsFirstFault form.individual (drop from (lexemes text.now tokens.now)) (stop.token - from)) }
     ensures what { IfErr result (λ stop. Says form.individual (drop from (lexemes text.now tokens.now)) (stop.token - from) stop.what) }
 {
-    check_phrase(text, tokens.list(), from, Kind::Individual)
+    check_phrase(text, tokens, from, Phrase::Individual)
 }
 
 /// Checks that a literal begins at a token, and answers the token behind the longest one. A string
@@ -168,7 +211,7 @@ pub fn check_individual(text: &[u8], tokens: &Tokens, from: u32) -> Result<u32, 
 pub fn check_literal(text: &[u8], tokens: &Tokens, from: u32) -> Result<u32, Stop>
     requires tokens { AreTokensOf text.now tokens.now }
     requires from { from ≤ length tokens.now }
-    requires nesting { nesting (drop from (lexemes text.now tokens.now)) ≤ 128 }
+    requires nesting { nesting (drop from (lexemes text.now tokens.now)) ≤ standard.depth }
     ensures after { IfOk result (λ to. from ≤ to) }
     ensures longest { IfOk result (λ to. IsLongest form.literal (drop from (lexemes text.now tokens.now)) (to - from)) }
     ensures none { IfErr result (λ stop. IsNoPhrase form.literal (drop from (lexemes text.now tokens.now))) }
@@ -176,7 +219,7 @@ pub fn check_literal(text: &[u8], tokens: &Tokens, from: u32) -> Result<u32, Sto
     ensures first { IfErr result (λ stop. IsFirstFault form.literal (drop from (lexemes text.now tokens.now)) (stop.token - from)) }
     ensures what { IfErr result (λ stop. Says form.literal (drop from (lexemes text.now tokens.now)) (stop.token - from) stop.what) }
 {
-    check_phrase(text, tokens.list(), from, Kind::Literal)
+    check_phrase(text, tokens, from, Phrase::Literal)
 }
 
 /// Checks that a text is a document, behind its prefix declarations. What the
@@ -190,7 +233,10 @@ pub fn check_document(text: &[u8], tokens: &Tokens) -> Result<(), Stop>
     check_text(
         text,
         tokens.list(),
-        &[Item::Star(Kind::Prefix), Item::One(Kind::Ontology)],
+        &[
+            Symbol::Star(Nonterminal::Prefix),
+            Symbol::One(Nonterminal::Ontology),
+        ],
     )
 }
 
@@ -205,7 +251,10 @@ pub fn check_edit(text: &[u8], tokens: &Tokens) -> Result<(), Stop>
     check_text(
         text,
         tokens.list(),
-        &[Item::Star(Kind::Prefix), Item::Star(Kind::Signed)],
+        &[
+            Symbol::Star(Nonterminal::Prefix),
+            Symbol::Star(Nonterminal::Signed),
+        ],
     )
 }
 
@@ -220,7 +269,10 @@ pub fn check_seed(text: &[u8], tokens: &Tokens) -> Result<(), Stop>
     check_text(
         text,
         tokens.list(),
-        &[Item::Star(Kind::Prefix), Item::Star(Kind::Entity)],
+        &[
+            Symbol::Star(Nonterminal::Prefix),
+            Symbol::Star(Nonterminal::Entity),
+        ],
     )
 }
 
@@ -235,6 +287,9 @@ pub fn check_axiom(text: &[u8], tokens: &Tokens) -> Result<(), Stop>
     check_text(
         text,
         tokens.list(),
-        &[Item::Star(Kind::Prefix), Item::One(Kind::Logical)],
+        &[
+            Symbol::Star(Nonterminal::Prefix),
+            Symbol::One(Nonterminal::Logical),
+        ],
     )
 }

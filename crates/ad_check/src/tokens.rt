@@ -6,9 +6,10 @@ ghost use Rattle.ad_check.specs.Machine as machine;
 ghost use Rattle.ad_check.specs.Machine.{named, labelled, quoted, signed, counts, is_number, opens, lookup};
 ghost use Rattle.ad_check.specs.Reads.{LooksAt, IsSign};
 
-use crate::items::{Item, Kind};
+use crate::items::{Nonterminal, Symbol};
 use crate::rows::keyword_row;
 use ad_lex::{Mark, Token};
+use ad_write::keywords;
 
 /// The token at a place, or none at the end of the text.
 pub(crate) fn token_at(text: &[u8], tokens: &[Token], at: usize) -> Option<Token>
@@ -24,57 +25,57 @@ pub(crate) fn token_at(text: &[u8], tokens: &[Token], at: usize) -> Option<Token
 }
 
 /// What stands behind a name in a phrase that begins with it.
-fn named_row(kind: Kind) -> Option<&'static [Item]>
+fn named_row(kind: Nonterminal) -> Option<&'static [Symbol]>
     ensures { option_copied result ≡ named kind }
 {
     match kind {
-        Kind::Name
-        | Kind::Property
-        | Kind::Link
-        | Kind::Individual
-        | Kind::Range
-        | Kind::Class
-        | Kind::Subject
-        | Kind::Value => Some(&[]),
-        Kind::Facet => Some(&[Item::One(Kind::Literal)]),
-        Kind::Number
-        | Kind::Literal
-        | Kind::Note
-        | Kind::Entity
-        | Kind::Axiom
-        | Kind::Logical
-        | Kind::Prefix
-        | Kind::Signed
-        | Kind::Ontology => None,
+        Nonterminal::Name
+        | Nonterminal::Property
+        | Nonterminal::Link
+        | Nonterminal::Individual
+        | Nonterminal::Range
+        | Nonterminal::Class
+        | Nonterminal::Subject
+        | Nonterminal::Value => Some(&[]),
+        Nonterminal::Facet => Some(&[Symbol::One(Nonterminal::Literal)]),
+        Nonterminal::Number
+        | Nonterminal::Literal
+        | Nonterminal::Note
+        | Nonterminal::Entity
+        | Nonterminal::Axiom
+        | Nonterminal::Logical
+        | Nonterminal::Prefix
+        | Nonterminal::Signed
+        | Nonterminal::Ontology => None,
     }
 }
 
 /// What stands behind the label of an anonymous individual in a phrase that begins with it.
-fn labelled_row(kind: Kind) -> Option<&'static [Item]>
+fn labelled_row(kind: Nonterminal) -> Option<&'static [Symbol]>
     ensures { option_copied result ≡ labelled kind }
 {
     match kind {
-        Kind::Individual | Kind::Subject | Kind::Value => Some(&[]),
+        Nonterminal::Individual | Nonterminal::Subject | Nonterminal::Value => Some(&[]),
         _ => None,
     }
 }
 
 /// What stands behind a string in a phrase that begins with it.
-fn quoted_row(kind: Kind) -> Option<&'static [Item]>
+fn quoted_row(kind: Nonterminal) -> Option<&'static [Symbol]>
     ensures { option_copied result ≡ quoted kind }
 {
     match kind {
-        Kind::Literal | Kind::Value => Some(&[Item::Tail]),
+        Nonterminal::Literal | Nonterminal::Value => Some(&[Symbol::Tail]),
         _ => None,
     }
 }
 
 /// What stands behind a sign in a phrase that begins with it.
-fn signed_row(kind: Kind) -> Option<&'static [Item]>
+fn signed_row(kind: Nonterminal) -> Option<&'static [Symbol]>
     ensures { option_copied result ≡ signed kind }
 {
     match kind {
-        Kind::Signed => Some(&[Item::One(Kind::Axiom)]),
+        Nonterminal::Signed => Some(&[Symbol::One(Nonterminal::Axiom)]),
         _ => None,
     }
 }
@@ -94,18 +95,17 @@ fn is_numeral(word: &str) -> bool
 }
 
 /// What stands behind a word in a phrase that begins with it.
-fn word_row(kind: Kind, word: &str) -> Option<&'static [Item]>
+fn word_row(kind: Nonterminal, word: &str) -> Option<&'static [Symbol]>
     ensures { option_copied result ≡ (if counts kind word.now then Some [] else lookup (machine.table false kind) word.now) }
 {
-    if kind == Kind::Number && is_numeral(word) {
-        Some(&[])
-    } else {
-        keyword_row(kind, word)
+    match kind {
+        Nonterminal::Number if is_numeral(word) => Some(&[]),
+        _ => keyword_row(kind, word),
     }
 }
 
 /// What stands behind a token in a phrase of the kind that begins with it, if one does.
-pub(crate) fn row(text: &[u8], token: Token, kind: Kind) -> Option<&'static [Item]>
+pub(crate) fn row(text: &[u8], token: Token, kind: Nonterminal) -> Option<&'static [Symbol]>
     requires { IsTokenOf text.now token }
     ensures { option_copied result ≡ machine.row false kind (lexeme text.now token) }
 {
@@ -126,13 +126,14 @@ pub(crate) fn row(text: &[u8], token: Token, kind: Kind) -> Option<&'static [Ite
 }
 
 /// Whether the wide grammar alone has a phrase of the kind that begins with this token.
-pub(crate) fn goes_wide(text: &[u8], token: Token, kind: Kind) -> bool
+pub(crate) fn goes_wide(text: &[u8], token: Token, kind: Nonterminal) -> bool
     requires { IsTokenOf text.now token }
     ensures { result ≡ machine.goes_wide kind (lexeme text.now token) }
 {
     match token.mark {
         Mark::Plain => match kind {
-            Kind::Axiom | Kind::Logical => token.plain(text) == "DLSafeRule",
+            Nonterminal::Axiom | Nonterminal::Logical => token.plain(text)
+                == keywords::DL_SAFE_RULE,
             _ => false,
         },
         _ => false,
@@ -145,7 +146,7 @@ pub(crate) fn is_import(text: &[u8], token: Token) -> bool
     ensures { result ≡ machine.imports (lexeme text.now token) }
 {
     match token.mark {
-        Mark::Plain => token.plain(text) == "Import",
+        Mark::Plain => token.plain(text) == keywords::IMPORT,
         _ => false,
     }
 }
@@ -156,7 +157,7 @@ pub(crate) fn is_rule(text: &[u8], token: Token) -> bool
     ensures { result ≡ machine.rules (lexeme text.now token) }
 {
     match token.mark {
-        Mark::Plain => token.plain(text) == "DLSafeRule",
+        Mark::Plain => token.plain(text) == keywords::DL_SAFE_RULE,
         _ => false,
     }
 }
@@ -170,17 +171,17 @@ pub(crate) fn is_name(text: &[u8], token: Token) -> bool
 }
 
 /// Whether the item is this one token.
-pub(crate) fn is_sign(text: &[u8], token: Token, item: Item) -> bool
+pub(crate) fn is_sign(text: &[u8], token: Token, item: Symbol) -> bool
     requires token { IsTokenOf text.now token }
     requires sign { IsSign item }
     ensures { (w : Bool) → opens w item (lexeme text.now token) ≡ (if result then Some [] else None) }
 {
     match item {
-        Item::Left => matches!(token.mark, Mark::Left),
-        Item::Right => matches!(token.mark, Mark::Right),
-        Item::Equals => matches!(token.mark, Mark::Equals),
-        Item::Full => matches!(token.mark, Mark::Iri),
-        Item::Label => match token.mark {
+        Symbol::Left => matches!(token.mark, Mark::Left),
+        Symbol::Right => matches!(token.mark, Mark::Right),
+        Symbol::Equals => matches!(token.mark, Mark::Equals),
+        Symbol::Full => matches!(token.mark, Mark::Iri),
+        Symbol::Label => match token.mark {
             Mark::Short => token.short(text).1.is_empty(),
             _ => false,
         },

@@ -5,13 +5,13 @@ use Rattle.std.proofs.lemmas.List.{length_push, length-set, length-replicate, ge
 use Rattle.ad_base.specs.declared.limits.Limits.{Limits}
 use Rattle.ad_tree.specs.declared.edits.Op.{Op}
 use Rattle.ad_edition.specs.Apply.{applied}
-use Rattle.ad_edition.specs.Log.{Logged, Shown, count_of, replay, defined_by}
+use Rattle.ad_edition.specs.Log.{Logged, Shown, count_of, next_entry, replay, defined_by}
 use Rattle.ad_edition.specs.Limit.{Passed}
 use Rattle.ad_edition.specs.Edition.{Held, IsEditionOf, first_of_all, next_edition, passed_by}
 use Rattle.ad_edition.proofs.LogLemmas.{GoesOn-push, replay-push}
-use Rattle.ad_core.specs.State.{State, at_first, after_commit, first_passed, next_entry}
-use Rattle.ad_core.specs.Editions.{AreEditionsOf}
-use Rattle.ad_core.specs.Events.{Event, Editions, Follow, AreEnabled, after, after_all, next_editions, all_editions, first_editions, unless_passed}
+use Rattle.ad_edition.specs.State.{State, at_first, ticket_of, after_commit, first_passed}
+use Rattle.ad_edition.specs.Editions.{AreEditionsOf}
+use Rattle.ad_edition.specs.Events.{Event, Editions, Follow, AreEnabled, after, after_all, next_editions, all_editions, first_editions, unless_passed}
 
 -- a log has one edition
 pub edition_is : (limits : Limits) (log : List Logged) (edition : Held) → IsEditionOf limits log edition → edition ≡ record { shown = defined_by log; limits = limits }
@@ -83,7 +83,7 @@ AreEditionsOf-enter limits log entered newest seen at are =
 
 follow-commits : (machine : State) (editions : Editions) (session : ℕ) (batch : List Op) → Follow machine editions → Follow (after machine (Event.commits session batch)) (next_editions editions (Event.commits session batch))
 follow-commits machine editions session batch follow =
-    let entry = next_entry machine session batch in
+    let entry = next_entry machine.log (ticket_of session) batch in
     let New : Option Passed → Option Passed → Type 0 = λ p q. Follow (unless_passed p machine (after_commit machine session batch)) (unless_passed q editions (record editions { newest = next_edition editions.newest batch })) in
     let same_limit : passed_by editions.newest batch ≡ first_passed machine batch = ap (λ (e : Held). passed_by e batch) (edition_is machine.limits machine.log editions.newest follow.newest_is) in
     subst (New (first_passed machine batch)) (sym same_limit) (elim (first_passed machine batch) as (λ p. New p p) [

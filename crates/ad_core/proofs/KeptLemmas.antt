@@ -7,7 +7,7 @@ use Rattle.ad_tree.specs.declared.edits.Op.{Op}
 use Rattle.ad_edition.specs.Log.{Logged, logged, count_of}
 use Rattle.ad_edition.specs.Edition.{Held, first_of_all, next_edition}
 use Rattle.ad_edition.proofs.LogLemmas.{count_of-append, count_of-le, count_of-one, count_of-other}
-use Rattle.ad_core.specs.Editions.{AreEditionsOf}
+use Rattle.ad_edition.specs.Editions.{AreEditionsOf}
 use Rattle.ad_core.specs.Kept.{numbers_of, Awaits, IsKept}
 use Rattle.ad_core.proofs.EditionsLemmas.{number_is, AreEditionsOf-first, AreEditionsOf-commit, AreEditionsOf-enter}
 

@@ -2,9 +2,9 @@
 use Rattle.std.proofs.Common.{◌≡◌, ℕ, ◌<◌, ◌≤◌, List, length, take, drop, get_or, set, refl, ap, sym, ◌∙◌, arith, [], ◌++◌, subst, append-nil, length-append, ◌+◌}
 use Rattle.std.proofs.lemmas.List.{get_or-set_same, length-take, set-set, take_all, take-append-drop, nil_from_length}
 use Rattle.ad_base.specs.declared.limits.Limits.{Limits}
-use Rattle.ad_edition.specs.Log.{Logged}
+use Rattle.ad_edition.specs.Log.{Logged, IsLog}
 use Rattle.ad_edition.specs.Sight.{Sight, Footing, IsFront, Enters}
-use Rattle.ad_core.specs.State.{State, entered_by, after_look}
+use Rattle.ad_edition.specs.State.{State, entered_by, after_look}
 use Rattle.ad_core.specs.Sights.{sight_of, footing_of}
 
 -- equal parts, equal machines
@@ -16,14 +16,15 @@ pub entered_by-look : (machine : State) → machine.session < length machine.ent
 entered_by-look machine looking =
     ap (λ n. take n machine.log) (get_or-set_same machine.entered machine.session (length machine.log) 0 looking) ∙ take_all (length machine.log) machine.log (omega arith)
 
-pub Enters-look : (machine : State) → machine.session < length machine.entered → Enters (sight_of machine) (sight_of (after_look machine))
-Enters-look machine looking = record {
+pub Enters-look : (machine : State) → IsLog machine.log → machine.session < length machine.entered → Enters (sight_of machine) (sight_of (after_look machine))
+Enters-look machine is looking = record {
+  is_log = subst IsLog (sym (entered_by-look machine looking)) is;
   entered = record {
     rest = drop (get_or machine.entered machine.session 0) machine.log;
     is = entered_by-look machine looking ∙ sym (take-append-drop (get_or machine.entered machine.session 0) machine.log);
   };
   told_too = tt;
-  looks = omega arith;
+  looks = refl;
   told = refl;
   lapses = omega arith;
 }

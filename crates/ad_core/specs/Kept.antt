@@ -5,8 +5,8 @@ use Rattle.std.specs.Arc.{arc_value}
 use Rattle.std.specs.declared.sync.Arc.{Arc}
 use Rattle.ad_edition.specs.Log.{Logged, count_of}
 use Rattle.ad_edition.specs.Edition.{Held}
-use Rattle.ad_core.specs.State.{State}
-use Rattle.ad_core.specs.Editions.{AreEditionsOf}
+use Rattle.ad_edition.specs.State.{State}
+use Rattle.ad_edition.specs.Editions.{AreEditionsOf}
 
 -- the editions of their owners
 abbrev pub editions_in : {Z : Type 0} → List (Arc Held Z) → List Held

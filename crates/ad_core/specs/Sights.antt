@@ -1,7 +1,7 @@
 -- What the session that looks sees of a machine, and what its look stands on.
 use Rattle.std.specs.Prelude.{[], slice_set}
 use Rattle.ad_edition.specs.Sight.{Sight, Footing}
-use Rattle.ad_core.specs.State.{State, entered_by}
+use Rattle.ad_edition.specs.State.{State, entered_by}
 
 -- the front of the log that it has entered; a look of a machine is told nothing and never fails
 abbrev pub sight_of : State → Sight

@@ -1,5 +1,5 @@
 ghost use Rattle.ad_edition.specs.Sight.{IsSure};
-ghost use Rattle.ad_core.specs.Events.{EditionsFollowTheLog};
+ghost use Rattle.ad_edition.specs.Events.{EditionsFollowTheLog};
 ghost use Rattle.ad_core.specs.Sights.{sight_of};
 
 /// What is proved of every list of events, and of every look of a machine.

@@ -8,5 +8,3 @@ mod laws;
 mod look;
 mod machine;
 mod owners;
-#[cfg(test)]
-mod tests;

@@ -1,5 +1,5 @@
 ghost use Rattle.ad_core.specs.Sights.{sight_of, footing_of};
-ghost use Rattle.ad_core.specs.State.{entered_by};
+ghost use Rattle.ad_edition.specs.State.{entered_by};
 
 use crate::machine::Machine;
 use ad_edition::{Edition, Look, NoLook};

@@ -1,7 +1,8 @@
 ghost use Rattle.std.specs.Prelude.{◌≡◌, ◌<◌, ◌≤◌, ◌^◌, length, None, IfOk, IfErr, IsOk, OnOk, OnErr};
 ghost use Rattle.ad_base.specs.Limits.{AreWithinStandard};
+ghost use Rattle.ad_edition.specs.Log.{IsLog};
 ghost use Rattle.ad_edition.specs.Edition.{IsEditionOf, next_edition};
-ghost use Rattle.ad_core.specs.State.{at_first, entered_by, after_attend, after_commit, after_enter, after_look, first_passed, newest_of, receipt_after, IsMachine, IsRefusalOf};
+ghost use Rattle.ad_edition.specs.State.{at_first, entered_by, after_attend, after_commit, after_enter, after_look, first_passed, newest_of, receipt_after, IsMachine, IsRefusalOf};
 
 use crate::owners::{owners_of, waiting_for};
 use ad_base::{Limits, Memory};
@@ -32,7 +33,7 @@ pub struct Machine {
 
 impl Model for Machine {
     ghost use Rattle.std.specs.Arc.{arc_value};
-    ghost use Rattle.ad_core.specs.State.{State, state_code};
+    ghost use Rattle.ad_edition.specs.State.{State, state_code};
 
     ghost Value = { State };
 
@@ -145,10 +146,18 @@ impl Machine {
         Ok(receipt)
     }
 
+    /// A law: what holds of every machine.
+    pub fn laws(&self)
+        ensures { IsMachine self.now }
+    {
+        self.newest();
+    }
+
     // The session that looks enters the whole log, and its look is counted.
     pub(crate) fn look_on(&mut self)
         ensures after { self.new ≡ after_look self.old }
         ensures looking { self.old.session < length self.old.entered }
+        ensures is_log { IsLog self.old.log }
     {
         let session = self.session;
         self.enter(session);

@@ -6,8 +6,9 @@ use Rattle.ad_base.specs.declared.limits.Kind.TheVariants.{Bottom, Top, Star}
 use Rattle.ad_base.specs.declared.limits.Side.{Side}
 use Rattle.ad_bits.specs.Rows.{has}
 use Rattle.ad_theory.specs.Genuine.{IsGenuine}
+use Rattle.ad_theory.specs.Numbers.{among}
 use Rattle.ad_theory.specs.Rows.{Tables}
-use Rattle.ad_theory.proofs.GenuineLemmas.{nested}
+use Rattle.ad_theory.proofs.GenuineLemmas.{numbered_nested}
 use Rattle.ad_decomposition.specs.Tables.{AreGenuine, AreNested, is_in, is_in_row_of}
 
 module _ (symbols : ℕ → List ℕ) (local : Side → (ℕ → Bool) → ℕ → Bool) (live : ℕ → Bool) where
@@ -35,5 +36,5 @@ module _ (symbols : ℕ → List ℕ) (local : Side → (ℕ → Bool) → ℕ �
           let m = in_live i j l s in
           let r = genuine.rows kind i l in
           let q = genuine.rows kind j m in
-          in_has i k l (nested symbols local live kind i j (has r.0) (has q.0) r.3 (has_in i j l s) q.3 k (has_in j k m t));
+          in_has i k l (numbered_nested symbols local live kind (among (symbols i)) j (has r.0) (has q.0) r.3.0 r.3.1 (has_in i j l s) q.3 k (has_in j k m t));
     }

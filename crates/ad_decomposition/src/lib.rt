@@ -5,5 +5,3 @@
 pub use laws::{atoms_are_classes, covers_are_between, nested_depends, rows_nest};
 
 mod laws;
-#[cfg(test)]
-mod tests;

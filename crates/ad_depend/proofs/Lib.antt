@@ -2,4 +2,3 @@ pub mod RowLemmas
 pub mod ReductionLemmas
 pub mod NumberingLemmas
 pub mod CoverLemmas
-pub mod ExampleLemmas

@@ -1,4 +1,3 @@
 pub mod Covered
 pub mod Reduction
 pub mod Numbering
-pub mod Example

@@ -6,7 +6,7 @@ use ad_bits::Row;
 use std::marker::Model;
 
 /// For each atom the atoms that it covers.
-#[derive(Debug, Drop)]
+#[derive(Drop)]
 pub struct Covers {
     rows: Vec<Row>,
     tops: Row,

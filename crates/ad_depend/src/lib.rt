@@ -8,5 +8,3 @@ mod depends;
 mod found;
 mod reduction;
 mod search;
-#[cfg(test)]
-mod tests;

@@ -6,7 +6,7 @@ use Rattle.ad_base.specs.Limits.{AreWithinStandard}
 use borrow.Author.Tests.{ltb-false}
 use Rattle.ad_base.specs.declared.limits.Limits.{Limits}
 use Rattle.ad_base.specs.declared.limits.Which.TheVariants as which
-use Rattle.ad_tree.specs.Signature.{is_logical}
+use Rattle.ad_tree.specs.Logical.{is_logical}
 use Rattle.ad_tree.specs.declared.axioms.Noted.{Noted}
 use Rattle.ad_write.specs.Canonical.{canon_document}
 use Rattle.ad_edition.specs.Same.{same_axiom}
@@ -14,7 +14,8 @@ use Rattle.ad_tree.specs.declared.edits.Op.{Op}
 use Rattle.ad_edition.specs.declared.receipts.Refused.{Refused}
 use Rattle.ad_edition.specs.declared.receipts.Refused.TheVariants as refusals
 use Rattle.ad_edition.specs.Apply.{applied}
-use Rattle.ad_edition.specs.Limit.{logical, Passed, first_of, passed_with, Names}
+use Rattle.ad_syntax_laws.specs.OntologyModule.{logical}
+use Rattle.ad_edition.specs.Limit.{Passed, first_of, passed_with, Names}
 use Rattle.ad_edition.specs.Edition.{Held, held, IsSound, IsRefusal}
 use Rattle.ad_edition.proofs.LogLemmas.{distinct-applied}
 

@@ -13,7 +13,8 @@ use Rattle.ad_tree.specs.declared.edits.Op.{Op}
 use Rattle.ad_write.specs.Canonical.{canon_document}
 use Rattle.ad_edition.specs.Apply.{applied, Counts, counts_of}
 use Rattle.ad_edition.specs.Log.{Logged, Shown, defined_by}
-use Rattle.ad_edition.specs.Limit.{Passed, passed, logical}
+use Rattle.ad_syntax_laws.specs.OntologyModule.{logical}
+use Rattle.ad_edition.specs.Limit.{Passed, passed}
 use Rattle.ad_edition.specs.declared.receipts.Receipt.{Receipt}
 use Rattle.ad_edition.specs.declared.receipts.Refused.{Refused}
 use Rattle.ad_edition.specs.declared.receipts.Refused.TheVariants as refusals

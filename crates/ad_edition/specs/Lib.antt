@@ -4,6 +4,9 @@ pub mod Log
 pub mod Limit
 pub mod Sight
 pub mod Edition
+pub mod State
+pub mod Editions
+pub mod Events
 pub mod Places
 pub mod Steps
 pub mod Working

@@ -1,21 +1,16 @@
 -- The first limit that an edit passes, with the count that passes it.
 use Rattle.std.specs.Prelude.{◌≡◌, ℕ, ◌+◌, cond, List, Option, None, Some, Result, Ok, Err, nat_lt, length}
-use Rattle.std.specs.List.{filter}
 use Rattle.ad_base.specs.declared.limits.Which.{Which}
 use Rattle.ad_base.specs.declared.limits.Which.TheVariants as limits
 use Rattle.ad_base.specs.declared.limits.Limits.{Limits}
-use Rattle.ad_tree.specs.Signature.{is_logical}
 use Rattle.ad_tree.specs.declared.axioms.Noted.{Noted}
+use Rattle.ad_syntax_laws.specs.OntologyModule.{logical}
 use Rattle.ad_edition.specs.declared.receipts.Refused.{Refused}
 use Rattle.ad_edition.specs.declared.receipts.Refused.TheVariants as refusals
 
 pub record Passed : Type 0 where
   pub which : Which
   pub count : ℕ
-
--- the logical axioms, in order
-abbrev pub logical : List Noted → List Noted
-logical ontology = filter (λ a. is_logical a.axiom) ontology
 
 -- this limit, where the count is above it, and else what comes later
 abbrev pub first_of : Which → ℕ → ℕ → Option Passed → Option Passed

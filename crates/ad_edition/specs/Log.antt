@@ -25,6 +25,10 @@ abbrev pub count_of : List Logged → ℕ → ℕ
 count_of [] ticket = 0
 count_of (e ∷ es) ticket = cond (nat_eq e.ticket ticket) (1 + count_of es ticket) (count_of es ticket)
 
+-- the next entry of a ticket
+abbrev pub next_entry : List Logged → ℕ → List Op → Logged
+next_entry log ticket batch = logged ticket (count_of log ticket + 1) batch
+
 -- the entries go on after those before: each ticket's sequences are 1, 2, 3 and so on, in order
 abbrev pub GoesOn : List Logged → List Logged → Type 0
 GoesOn before [] = Unit {0}

@@ -1,9 +1,10 @@
 -- What a session has seen of the published editions.
-use Rattle.std.specs.Prelude.{◌≡◌, ℕ, ◌+◌, ◌^◌, ◌-◌, ◌≤◌, min, List, [], ◌∷◌, ◌++◌, Result, Ok, Err}
+use Rattle.std.specs.Prelude.{◌≡◌, ℕ, ◌≤◌, List, [], ◌∷◌, ◌++◌, Result, Ok, Err}
 use Rattle.std.specs.List.{AllByRecursion}
+use Rattle.ad_io.specs.Flow.{raised, Rose}
 use Rattle.ad_edition.specs.declared.look.NoLook.{NoLook}
 use Rattle.ad_edition.specs.declared.look.NoLook.TheVariants as refusals
-use Rattle.ad_edition.specs.Log.{Logged}
+use Rattle.ad_edition.specs.Log.{Logged, IsLog}
 
 -- the log as last entered, how often it was entered, the logs that the session was told, and how often a look failed
 pub record Sight : Type 0 where
@@ -17,15 +18,13 @@ pub record IsFront (front whole : List Logged) : Type 0 where
   pub rest : List Logged
   pub is : whole ≡ front ++ rest
 
--- a count has risen since, or it stands at its greatest value
-abbrev pub Rose : ℕ → ℕ → Type 0
-Rose before now = min (before + 1) (2 ^ 64 - 1) ≤ now
-
--- the session enters a log that goes on from the one before and from every log that it was told
+-- The session enters a log that goes on from the one before and from every log that it was told. The count of its looks
+-- is raised by one, unless it stands at its greatest value.
 pub record Enters (old new : Sight) : Type 0 where
+  pub is_log : IsLog new.entered
   pub entered : IsFront old.entered new.entered
   pub told_too : AllByRecursion (λ log. IsFront log new.entered) old.told
-  pub looks : Rose old.looks new.looks
+  pub looks : new.looks ≡ raised old.looks
   pub told : new.told ≡ old.told
   pub lapses : old.lapses ≤ new.lapses
 
@@ -48,3 +47,8 @@ IsSure {L} sight = (look : L) → (sight look).lapses ≡ 0
 pub data Footing : Type 0 where
   machine : (session : ℕ) (log : List Logged) (others : List ℕ) → Footing
   library : (table : ℕ) → Footing
+
+-- what a look that stands on this may enter: that of a machine enters the machine's whole log
+abbrev pub Reaches : Footing → List Logged → Type 0
+Reaches (Footing.machine session log others) entered = entered ≡ log
+Reaches (Footing.library table) entered = Unit {0}

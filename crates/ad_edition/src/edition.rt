@@ -45,7 +45,7 @@ impl Model for Edition {
 }
 
 impl Edition {
-    ghost use Rattle.ad_edition.specs.Limit.{logical};
+    ghost use Rattle.ad_syntax_laws.specs.OntologyModule.{logical};
     ghost use Rattle.ad_edition.specs.Edition.{first_of_all, drafted, passed_by, IsRefusal};
 
     /// The first edition: number 0, without axioms. It takes no memory.

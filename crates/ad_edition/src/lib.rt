@@ -16,6 +16,4 @@ mod look;
 mod places;
 mod receipts;
 mod steps;
-#[cfg(test)]
-mod tests;
 mod working;

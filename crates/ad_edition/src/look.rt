@@ -2,7 +2,7 @@ ghost use Rattle.std.specs.Prelude.{◌≡◌, List, IsOk};
 ghost use Rattle.ad_base.specs.declared.limits.Limits.{Limits};
 ghost use Rattle.ad_edition.specs.Log.{Logged};
 ghost use Rattle.ad_edition.specs.Edition.{IsEditionOf};
-ghost use Rattle.ad_edition.specs.Sight.{Sight, Footing, LookIs};
+ghost use Rattle.ad_edition.specs.Sight.{Sight, Footing, LookIs, Reaches};
 
 use crate::edition::Edition;
 
@@ -28,6 +28,7 @@ pub trait Look {
     /// told. At Ok its edition is lent from then on.
     fn look(&mut self) -> Result<(), NoLook>
         ensures looks { LookIs result (sight self.old) (sight self.new) }
+        ensures reaches { IsOk result → Reaches (footing self.old) (sight self.new).entered }
         ensures shown { IsOk result → shown self.new ≡ (sight self.new).entered }
         ensures footing { footing self.new ≡ footing self.old }
         ensures limits { limits self.new ≡ limits self.old };

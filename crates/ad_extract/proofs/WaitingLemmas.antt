@@ -6,7 +6,7 @@ use Rattle.ad_bits.specs.Rows.{has, IsLeastFrom, HasNoneFrom}
 use Rattle.ad_bits.proofs.Rows.{has-set_same, has-set_other, member_count-set}
 use Rattle.ad_theory.specs.Numbers.{among}
 use Rattle.ad_theory.specs.Sweep.{HasAlso}
-use Rattle.ad_theory.proofs.Members.{either, not_both, or_left, or_right, or_cases, and_intro, false_not}
+use Rattle.ad_theory.proofs.Members.{either, not_both, or_left, or_right, or_cases, and_intro, and_left, false_not}
 use Rattle.ad_extract.specs.Waiting.{AreDistinct, IsWaiting, settled}
 
 -- what stands in a list with one more number
@@ -188,3 +188,7 @@ members_all seed from reached none h s = (
   (λ t. ((h s).0 t).0),
   (λ t. elim (cases_lt s from) [ inl below ↦ (h s).1 (t, below) | inr above ↦ absurd (not_both t (none s above)) ]),
 )
+
+-- what is settled was reached
+pub settled_reached : (pending : List ℕ) (reached : List Bool) (s : ℕ) → IsTrue (settled pending reached s) → IsTrue (has reached s)
+settled_reached pending reached s t = and_left (has reached s) (not (among pending s)) t

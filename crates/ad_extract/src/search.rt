@@ -1,6 +1,6 @@
 //! Steps of a search for a module. `pending` is the stack of symbols that wait, `out` the axioms taken so far, and
 
-ghost use Rattle.std.specs.Prelude.{◌≡◌, ◌≤◌, ◌+◌, ◌<◌, ℕ, Bool, true, ◌⊎◌, IsTrue, length, set, vec_capacity};
+ghost use Rattle.std.specs.Prelude.{◌≡◌, ◌≤◌, ◌+◌, ◌<◌, ℕ, ◌&&◌, not, Bool, true, ◌⊎◌, IsTrue, length, set, vec_capacity};
 ghost use Rattle.ad_base.specs.declared.limits.Side.{Side};
 ghost use Rattle.ad_bits.specs.Rows.{has};
 ghost use Rattle.ad_theory.specs.Numbers.{among, logic_of};
@@ -37,6 +37,29 @@ fn take<U: Universe>(
     reach_all(pending, reached, universe.signature(slot));
 }
 
+// Whether an axiom is to be taken: it is in `within`, isn't taken yet, and isn't local for what was reached.
+fn is_needed<U: Universe>(
+    universe: &U,
+    side: Side,
+    slot: u32,
+    within: &Row,
+    out: &Row,
+    reached: &Row,
+    tally: &mut Tally,
+) -> bool
+    requires live { IsTrue (U.is_live universe.now slot) }
+    requires within { length within.now ≡ U.slot_count universe.now }
+    requires out { length out.now ≡ U.slot_count universe.now }
+    requires reached { length reached.now ≡ U.symbol_count universe.now }
+    ensures needed { result ≡ (has within.now slot && (not (has out.now slot)
+        && not (U.is_local universe.now side (has reached.now) slot))) }
+    ensures tests { tally.new.tests ≤ tally.old.tests + 1 }
+    ensures counted { tally.old.tests ≤ tally.new.tests }
+    ensures runs { tally.new.runs ≡ tally.old.runs }
+{
+    within.has(slot) && !out.has(slot) && !universe.local(side, slot, reached, tally)
+}
+
 // Looks at an axiom: takes it where it is in `within` and not local for what was reached.
 fn look_at<U: Universe>(
     universe: &U,
@@ -71,16 +94,9 @@ fn look_at<U: Universe>(
     ensures out { length out.new ≡ length out.old }
     ensures reached { length reached.new ≡ length reached.old }
 {
-    if !within.has(slot) {
-        return;
+    if is_needed(universe, side, slot, within, out, reached, tally) {
+        take(universe, slot, pending, out, reached);
     }
-    if out.has(slot) {
-        return;
-    }
-    if universe.local(side, slot, reached, tally) {
-        return;
-    }
-    take(universe, slot, pending, out, reached);
 }
 
 // Looks at each of these axioms.

@@ -4,10 +4,10 @@ use Rattle.std.proofs.lemmas.Bool.{false≢true}
 use Rattle.std.specs.List.{filter}
 use Rattle.std.specs.Option.{MatchOption, IsSome}
 use Rattle.ad_theory.proofs.Members.{either, not_both, or_left, or_right, or_cases}
-use Rattle.ad_tree.specs.Entities.{same_entity, has_entity}
-use Rattle.ad_tree.specs.Signature.{occurrences, in_signature}
+use Rattle.ad_entity.specs.Entities.{same_entity, has_entity}
+use Rattle.ad_locality.specs.Signature.{occurrences, in_signature}
 use Rattle.ad_tree.specs.declared.axioms.Axiom.{Axiom}
-use Rattle.ad_tree.specs.declared.entities.Entity.{Entity}
+use Rattle.ad_entity.specs.declared.entities.Entity.{Entity}
 use Rattle.ad_syntax_laws.proofs.EntityLemmas.{same_entity_is, same_entity_refl}
 use Rattle.ad_signature.specs.Firsts.{firsts, signature_of}
 use Rattle.ad_signature.specs.Numbering.{number_in}

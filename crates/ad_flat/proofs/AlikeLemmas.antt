@@ -3,9 +3,9 @@ use Rattle.std.proofs.Common.{◌≡◌, ℕ, zero, suc, IsTrue, List, [], ◌�
 use Rattle.std.specs.List.{Contains, slice_get, zip, flat_map}
 use Rattle.std.specs.Option.{unwrap_or}
 use Rattle.std.proofs.lemmas.List.{length-map}
-use Rattle.ad_tree.specs.Entities.{same_entity, has_entity}
-use Rattle.ad_tree.specs.Signature.{occurrences}
-use Rattle.ad_tree.specs.declared.entities.Entity.{Entity}
+use Rattle.ad_entity.specs.Entities.{same_entity, has_entity}
+use Rattle.ad_locality.specs.Signature.{occurrences}
+use Rattle.ad_entity.specs.declared.entities.Entity.{Entity}
 use Rattle.ad_theory.proofs.Members.{Has, or_left, or_right, has_of_contains}
 use Rattle.ad_syntax_laws.proofs.EntityLemmas.{same_entity_of}
 use Rattle.ad_signature.specs.Firsts.{firsts, signature_of}

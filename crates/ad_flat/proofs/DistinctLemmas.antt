@@ -3,11 +3,11 @@ use Rattle.std.proofs.Common.{◌≡◌, ◌≢◌, ℕ, zero, suc, ◌+◌, ◌
 use Rattle.std.specs.List.{list_any, filter}
 use Rattle.std.proofs.lemmas.List.{take_more}
 use Rattle.std.proofs.lemmas.List.Folds.{list_any-append}
-use Rattle.ad_tree.specs.Entities.{same_entity}
+use Rattle.ad_entity.specs.Entities.{same_entity}
 use Rattle.ad_theory.specs.Numbers.{among}
 use Rattle.ad_theory.proofs.Members.{either, not_both, or_left, or_right, or_cases, and_intro, and_left, and_right}
 use Rattle.ad_syntax_laws.proofs.EntityLemmas.{same_entity_is, same_entity_of}
-use Rattle.ad_tree.specs.declared.entities.Entity.{Entity}
+use Rattle.ad_entity.specs.declared.entities.Entity.{Entity}
 use Rattle.ad_signature.specs.Firsts.{firsts}
 use Rattle.ad_flat.specs.Distinct.{AreDistinct, AreDistinctEntities, AreDistinctNumbers}
 

@@ -5,7 +5,7 @@ use Rattle.ad_base.specs.declared.limits.Kind.{Kind}
 use Rattle.ad_base.specs.declared.limits.Kind.TheVariants.{Bottom, Top, Star}
 use Rattle.ad_base.specs.declared.limits.Side.{Side}
 use Rattle.ad_base.specs.declared.limits.Side.TheVariants as sides
-use Rattle.ad_tree.specs.declared.entities.Entity.{Entity}
+use Rattle.ad_entity.specs.declared.entities.Entity.{Entity}
 use Rattle.ad_theory.specs.Kinds.{IsListedOfKind}
 use Rattle.ad_theory.specs.Listed.{IsListedModule}
 use Rattle.ad_theory.specs.Module.{IsModule}

@@ -7,3 +7,4 @@ pub mod CarryLemmas
 pub mod TreeLemmas
 pub mod KindOfTreesLemmas
 pub mod AlikeLemmas
+pub mod Crossing

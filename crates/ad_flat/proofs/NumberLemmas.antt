@@ -8,10 +8,10 @@ use Rattle.std.proofs.lemmas.List.{take_more, length-take-le}
 use Rattle.std.proofs.lemmas.List.Folds.{list_any-append}
 use Rattle.ad_base.specs.Words.{same_text, text_order}
 use Rattle.ad_theory.proofs.Members.{either, not_both}
-use Rattle.ad_tree.specs.Entities.{place_of, same_entity}
-use Rattle.ad_tree.specs.declared.entities.EntityKind.{EntityKind}
-use Rattle.ad_tree.specs.declared.entities.EntityKind.TheVariants as kinds
-use Rattle.ad_tree.specs.declared.entities.Entity.{Entity}
+use Rattle.ad_entity.specs.Entities.{place_of, same_entity}
+use Rattle.ad_entity.specs.declared.entities.EntityKind.{EntityKind}
+use Rattle.ad_entity.specs.declared.entities.EntityKind.TheVariants as kinds
+use Rattle.ad_entity.specs.declared.entities.Entity.{Entity}
 use Rattle.ad_syntax_laws.proofs.EntityLemmas.{same_entity_is}
 use Rattle.ad_flat.specs.Distinct.{AreDistinctEntities}
 use Rattle.ad_flat.specs.Held.{has_number_in}

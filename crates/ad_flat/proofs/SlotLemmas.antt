@@ -4,10 +4,10 @@ use Rattle.std.specs.List.{list_any}
 use Rattle.std.specs.Option.{unwrap_or}
 use Rattle.ad_theory.specs.Numbers.{among}
 use Rattle.ad_theory.proofs.Members.{not_both, or_left, or_right, or_cases}
-use Rattle.ad_tree.specs.Entities.{same_entity}
-use Rattle.ad_tree.specs.Signature.{occurrences, in_signature}
+use Rattle.ad_entity.specs.Entities.{same_entity}
+use Rattle.ad_locality.specs.Signature.{occurrences, in_signature}
 use Rattle.ad_tree.specs.declared.axioms.Axiom.{Axiom}
-use Rattle.ad_tree.specs.declared.entities.Entity.{Entity}
+use Rattle.ad_entity.specs.declared.entities.Entity.{Entity}
 use Rattle.ad_syntax_laws.proofs.EntityLemmas.{same_entity_of}
 use Rattle.ad_signature.specs.Firsts.{firsts}
 use Rattle.ad_flat.specs.Distinct.{AreDistinctNumbers}

@@ -3,11 +3,11 @@ use Rattle.std.proofs.Common.{◌≡◌, ℕ, zero, suc, ◌+◌, ◌==◌, Bool
 use Rattle.std.specs.List.{Contains, filter, flat_map, list_any, slice_get, zip}
 use Rattle.std.proofs.lemmas.Bool.{false≢true}
 use Rattle.ad_base.specs.declared.limits.Side.{Side}
-use Rattle.ad_tree.specs.Entities.{same_entity, has_entity}
-use Rattle.ad_tree.specs.Signature.{occurrences, in_signature}
-use Rattle.ad_tree.specs.Locality.{local}
+use Rattle.ad_entity.specs.Entities.{same_entity, has_entity}
+use Rattle.ad_locality.specs.Signature.{occurrences, in_signature}
+use Rattle.ad_locality.specs.Locality.{local}
 use Rattle.ad_tree.specs.declared.axioms.Noted.{Noted}
-use Rattle.ad_tree.specs.declared.entities.Entity.{Entity}
+use Rattle.ad_entity.specs.declared.entities.Entity.{Entity}
 use Rattle.ad_tree.proofs.Equality.{noted_eq, noted_eq-is}
 use Rattle.ad_theory.specs.Numbers.{among, logic_of}
 use Rattle.ad_theory.proofs.Members.{Has, either, not_both, or_left, or_right, or_cases, and_intro, and_left, and_right, has_of_contains, contains_of_has, any_of_has, has_of_any}

@@ -1,8 +1,8 @@
 -- Lists without repeats.
 use Rattle.std.specs.Prelude.{◌≡◌, ◌==◌, ℕ, Bool, false, List, [], ◌∷◌}
 use Rattle.std.specs.List.{list_any}
-use Rattle.ad_tree.specs.Entities.{same_entity}
-use Rattle.ad_tree.specs.declared.entities.Entity.{Entity}
+use Rattle.ad_entity.specs.Entities.{same_entity}
+use Rattle.ad_entity.specs.declared.entities.Entity.{Entity}
 
 -- no element stands in the list twice
 abbrev pub AreDistinct : {A : Type 0} → (A → A → Bool) → List A → Type 0

@@ -3,12 +3,12 @@ use Rattle.std.specs.Prelude.{◌≡◌, ◌<◌, ℕ, Bool, false, not, ◌&&�
 use Rattle.std.specs.Option.{unwrap_or}
 use Rattle.std.specs.List.{list_any, zip}
 use Rattle.ad_base.specs.declared.limits.Side.{Side}
-use Rattle.ad_tree.specs.Entities.{same_entity}
-use Rattle.ad_tree.specs.Locality.{local}
-use Rattle.ad_tree.specs.Signature.{in_signature}
+use Rattle.ad_entity.specs.Entities.{same_entity}
+use Rattle.ad_locality.specs.Locality.{local}
+use Rattle.ad_locality.specs.Signature.{in_signature}
 use Rattle.ad_tree.specs.declared.axioms.Axiom.{Axiom}
 use Rattle.ad_tree.specs.declared.axioms.Noted.{Noted}
-use Rattle.ad_tree.specs.declared.entities.Entity.{Entity}
+use Rattle.ad_entity.specs.declared.entities.Entity.{Entity}
 use Rattle.ad_signature.specs.Firsts.{signature_of}
 
 -- an axiom, and the numbers of the entities in its signature, in the order in which they first occur in it

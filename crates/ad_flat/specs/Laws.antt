@@ -3,8 +3,8 @@ use Rattle.std.specs.Prelude.{◌≡◌, ◌≢◌, ◌<◌, ◌≤◌, ◌+◌,
 use Rattle.std.specs.List.{slice_get, list_any, zip}
 use Rattle.std.proofs.Common.{sym, ap, ◌∙◌, subst, inl, inr, arith, eqb-true, eq-eqb}
 use Rattle.ad_base.specs.declared.limits.Side.{Side}
-use Rattle.ad_tree.specs.Entities.{same_entity}
-use Rattle.ad_tree.specs.declared.entities.Entity.{Entity}
+use Rattle.ad_entity.specs.Entities.{same_entity}
+use Rattle.ad_entity.specs.declared.entities.Entity.{Entity}
 use Rattle.ad_theory.specs.Module.{IsAntitone}
 use Rattle.ad_theory.specs.Numbers.{among, logic_of}
 use Rattle.ad_theory.proofs.Members.{either, not_both, not_true, false_not, or_left, or_right, or_cases, and_intro, and_left, and_right}

@@ -1,9 +1,9 @@
 -- The axioms and entities behind the numbers of a universe.
 use Rattle.std.specs.Prelude.{◌≡◌, ◌↔◌, ℕ, suc, Bool, cond, List, [], ◌∷◌, map, length, Option, Some, IsTrue}
 use Rattle.std.specs.List.{Contains, flat_map, slice_get}
-use Rattle.ad_tree.specs.Signature.{in_signature}
+use Rattle.ad_locality.specs.Signature.{in_signature}
 use Rattle.ad_tree.specs.declared.axioms.Noted.{Noted}
-use Rattle.ad_tree.specs.declared.entities.Entity.{Entity}
+use Rattle.ad_entity.specs.declared.entities.Entity.{Entity}
 use Rattle.ad_signature.specs.Firsts.{signature_of}
 use Rattle.ad_flat.specs.Held.{Held, held_by, numbered}
 

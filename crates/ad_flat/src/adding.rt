@@ -1,7 +1,7 @@
 ghost use Rattle.std.specs.Prelude.{◌≡◌, ◌<◌, ◌≤◌, ◌++◌, ◌∷◌, [], ℕ, Some, length, IfOk, OnOk, OnErr, IsTrue, IsSome};
-ghost use Rattle.ad_tree.specs.Entities.{has_entity};
-ghost use Rattle.ad_tree.specs.Signature.{is_logical};
-ghost use Rattle.ad_tree.specs.declared.entities.Entity.{Entity};
+ghost use Rattle.ad_entity.specs.Entities.{has_entity};
+ghost use Rattle.ad_tree.specs.Logical.{is_logical};
+ghost use Rattle.ad_entity.specs.declared.entities.Entity.{Entity};
 ghost use Rattle.ad_signature.specs.Numbering.{number_in};
 ghost use Rattle.ad_flat.specs.Held.{held_by};
 

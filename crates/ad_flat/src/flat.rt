@@ -1,6 +1,6 @@
 ghost use Rattle.std.specs.Prelude.{◌≡◌, ◌<◌, ◌++◌, ◌∷◌, [], length, IfOk, OnOk, OnErr, IsTrue};
 ghost use Rattle.ad_base.specs.Limits.{AreWithinStandard};
-ghost use Rattle.ad_tree.specs.Signature.{is_logical};
+ghost use Rattle.ad_tree.specs.Logical.{is_logical};
 ghost use Rattle.ad_flat.specs.Held.{held_by, IsNumberedBelow};
 ghost use Rattle.ad_flat.specs.Places.{is_held, held_symbols, held_slots, held_globals, is_held_local};
 ghost use Rattle.ad_flat.specs.Laws as laws;

@@ -3,7 +3,7 @@
 ghost use Rattle.std.specs.Prelude.{ℕ, Bool, List, Option, IsTrue};
 ghost use Rattle.ad_base.specs.declared.limits.Kind.{Kind};
 ghost use Rattle.ad_base.specs.declared.limits.Side.TheVariants as sides;
-ghost use Rattle.ad_tree.specs.declared.entities.Entity.{Entity};
+ghost use Rattle.ad_entity.specs.declared.entities.Entity.{Entity};
 ghost use Rattle.ad_theory.specs.Kinds.{IsListedOfKind};
 ghost use Rattle.ad_theory.specs.Numbers.{IsNumberedModule};
 ghost use Rattle.ad_syntax_laws.specs.OntologyLogic.{axiom_logic};

@@ -1,7 +1,7 @@
 ghost use Rattle.std.specs.Prelude.{◌≡◌, ◌<◌, cond, Some, None, length, IfOk, OnOk};
 ghost use Rattle.std.specs.List.{zip};
-ghost use Rattle.ad_tree.specs.Entities.{entity, same_entity};
-ghost use Rattle.ad_tree.specs.declared.entities.Entity.{Entity};
+ghost use Rattle.ad_entity.specs.Entities.{entity, same_entity};
+ghost use Rattle.ad_entity.specs.declared.entities.Entity.{Entity};
 ghost use Rattle.ad_flat.specs.Distinct.{AreDistinctEntities};
 ghost use Rattle.ad_flat.specs.Numbering.{number_in, IsNumbering};
 

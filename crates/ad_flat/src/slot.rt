@@ -2,9 +2,10 @@ ghost use Rattle.std.specs.Prelude.{◌≡◌, ◌<◌, ℕ, Some, map, length, 
 ghost use Rattle.std.specs.Option.{unwrap_or};
 ghost use Rattle.ad_base.specs.declared.limits.Side.{Side};
 ghost use Rattle.ad_bits.specs.Rows.{has};
-ghost use Rattle.ad_tree.specs.Entities.{has_entity};
-ghost use Rattle.ad_tree.specs.Signature.{is_logical, in_signature};
-ghost use Rattle.ad_tree.specs.declared.entities.Entity.{Entity};
+ghost use Rattle.ad_entity.specs.Entities.{has_entity};
+ghost use Rattle.ad_tree.specs.Logical.{is_logical};
+ghost use Rattle.ad_locality.specs.Signature.{in_signature};
+ghost use Rattle.ad_entity.specs.declared.entities.Entity.{Entity};
 ghost use Rattle.ad_flat.specs.Held.{held_by, is_local_held};
 ghost use Rattle.ad_flat.specs.Numbering.{number_in, is_in};
 
@@ -28,7 +29,7 @@ pub(crate) struct Slot {
 impl Model for Slot {
     ghost use Rattle.std.specs.Prelude.{IsTrue, ℕ, List, refl};
     ghost use Rattle.std.specs.Coded.{code_by, coded×, coded_list, coded_ℕ};
-    ghost use Rattle.ad_tree.specs.Signature.{is_logical};
+    ghost use Rattle.ad_tree.specs.Logical.{is_logical};
     ghost use Rattle.ad_tree.specs.declared.axioms.Noted.{Noted};
     ghost use Rattle.ad_tree.specs.contracts.axioms.Noted as one;
     ghost use Rattle.ad_flat.specs.Held.{Held, numbered};

@@ -1,6 +1,6 @@
 ghost use Rattle.std.specs.Prelude.{◌≡◌, IsTrue};
-ghost use Rattle.ad_tree.specs.Signature.{is_logical};
-ghost use Rattle.ad_tree.specs.Locality.{local};
+ghost use Rattle.ad_tree.specs.Logical.{is_logical};
+ghost use Rattle.ad_locality.specs.Locality.{local};
 
 use ad_base::Side;
 use ad_tree::{Axiom, Seen};

@@ -1,11 +1,12 @@
 -- What was found in parts, put together.
-use Rattle.std.proofs.Common.{◌≡◌, ◌+◌, ◌++◌, ℕ, ◌*◌, ◌<◌, ◌≤◌, ◌^◌, Bool, List, [], ◌∷◌, length, get_or, refl, sym, subst, ap, ◌∙◌, append-nil, length-append, arith, zero, suc}
+use Rattle.std.proofs.Common.{◌≡◌, ◌+◌, ◌++◌, ℕ, ◌*◌, ◌<◌, ◌≤◌, ◌^◌, Bool, List, [], ◌∷◌, length, get_or, refl, sym, subst, ap, ◌∙◌, append-nil, length-append, arith, zero, suc, inl, inr}
 use Rattle.std.specs.List.{AllZip, flat_map, sum_by}
 use Rattle.std.proofs.lemmas.Grind.{flat_map-append}
 use Rattle.std.proofs.lemmas.List.Sums.{sum_by-append, sum_by-cons}
 use Rattle.rayon.proofs.ListFacts.{AllZip-append}
 use Rattle.ad_base.specs.declared.limits.Kind.{Kind}
 use Rattle.ad_base.specs.declared.limits.Side.{Side}
+use Rattle.ad_theory.specs.Tally.{IsRaisedBy}
 use Rattle.ad_genuine.specs.declared.found.Found.{Found}
 use Rattle.ad_genuine.specs.Found.{AreFound, IsGenuineRow, rows_of_kind, runs_of}
 
@@ -69,3 +70,8 @@ runs-push parts part =
     let all = sum_by-append runs_of parts (part ∷ []) in
     let one = sum_by-cons runs_of part [] in
     omega (arith, all, one)
+
+-- a count that was raised is not less
+pub raised-le : (n before after : ℕ) → IsRaisedBy n before after → before ≤ after
+raised-le n before after (inl e) = omega (arith, e)
+raised-le n before after (inr s) = s.1

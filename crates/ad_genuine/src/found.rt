@@ -8,7 +8,7 @@ ghost use Rattle.ad_theory.specs.Tally.{IsRaisedBy};
 ghost use Rattle.ad_genuine.specs.declared.found.Found.{Found};
 ghost use Rattle.ad_genuine.specs.Found.{AreFound, rows_of_kind, runs_of};
 
-use crate::bench::Bench;
+use crate::finder::Finder;
 use ad_base::{Kind, Limits, Memory};
 use ad_bits::Row;
 use ad_theory::{Extractor, Tally, Universe};
@@ -24,6 +24,30 @@ pub(crate) struct Found {
     pub(crate) tally: Tally,
 }
 
+// Finds the genuine modules of these slots, of all three kinds.
+fn find_by<U: Universe, E: Extractor>(
+    alloc: Global,
+    universe: &U,
+    finder: &mut Finder<E>,
+    slots: &[u32],
+) -> Result<Found, Memory>
+    requires limits { AreSizesOf (E.made_for finder.old.extractor) (U.slot_count universe.now) (U.symbol_count universe.now) }
+    requires live { All (λ slot. IsTrue (U.is_live universe.now slot)) slots.now }
+    requires few { length slots.now ≤ 65536 }
+    ensures { IfOk result (AreFound (U.symbols_of universe.now) (U.is_local universe.now) (U.is_live universe.now) (U.slot_count universe.now) slots.now) }
+{
+    let mut tally = Tally::new();
+    let bottom = finder.find_all(alloc, universe, Kind::Bottom, slots, &mut tally)?;
+    let top = finder.find_all(alloc, universe, Kind::Top, slots, &mut tally)?;
+    let star = finder.find_all(alloc, universe, Kind::Star, slots, &mut tally)?;
+    Ok(Found {
+        bottom,
+        top,
+        star,
+        tally,
+    })
+}
+
 // Finds the genuine modules of these slots by an extractor of its own.
 pub(crate) fn find<U: Universe, E: Extractor>(
     alloc: Global,
@@ -37,17 +61,8 @@ pub(crate) fn find<U: Universe, E: Extractor>(
     requires few { length slots.now ≤ 65536 }
     ensures { IfOk result (AreFound (U.symbols_of universe.now) (U.is_local universe.now) (U.is_live universe.now) (U.slot_count universe.now) slots.now) }
 {
-    let mut bench: Bench<E> = Bench::make(alloc, limits)?;
-    let mut tally = Tally::new();
-    let bottom = bench.find_all(alloc, universe, Kind::Bottom, slots, &mut tally)?;
-    let top = bench.find_all(alloc, universe, Kind::Top, slots, &mut tally)?;
-    let star = bench.find_all(alloc, universe, Kind::Star, slots, &mut tally)?;
-    Ok(Found {
-        bottom,
-        top,
-        star,
-        tally,
-    })
+    let mut finder: Finder<E> = Finder::make(alloc, limits)?;
+    find_by(alloc, universe, &mut finder, slots)
 }
 
 // The row at a place, shared.

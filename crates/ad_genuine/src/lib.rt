@@ -3,7 +3,7 @@
 
 pub use finding::scratch;
 
-mod bench;
+mod finder;
 mod finding;
 mod found;
 mod grouping;

@@ -15,7 +15,7 @@ use Rattle.ad_tree.specs.declared.notes.Subject.{Subject}
 use Rattle.ad_tree.specs.declared.notes.Subject.TheVariants as subjects
 use Rattle.ad_tree.specs.declared.notes.Value.{Value}
 use Rattle.ad_tree.specs.declared.notes.Value.TheVariants as values
-use Rattle.ad_tree.specs.declared.entities.Entity.{Entity}
+use Rattle.ad_entity.specs.declared.entities.Entity.{Entity}
 use Rattle.ad_write.specs.Canonical.{kind_word}
 use Rattle.ad_grammar.specs.Shapes.{Text, Then, Compound}
 

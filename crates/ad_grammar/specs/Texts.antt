@@ -5,8 +5,8 @@ use Rattle.std.specs.Str.{bytes_eq}
 use Rattle.ad_lex.specs.Lexemes.{Lexeme}
 use Rattle.ad_lex.specs.Lexemes as says
 use Rattle.ad_write.specs.Keywords as kw
-use Rattle.ad_tree.specs.Signature.{is_logical}
-use Rattle.ad_tree.specs.declared.entities.Entity.{Entity}
+use Rattle.ad_tree.specs.Logical.{is_logical}
+use Rattle.ad_entity.specs.declared.entities.Entity.{Entity}
 use Rattle.ad_tree.specs.declared.notes.Annotation.{Annotation}
 use Rattle.ad_tree.specs.declared.axioms.Noted.{Noted}
 use Rattle.ad_tree.specs.declared.edits.Op.{Op}
@@ -23,7 +23,7 @@ pub record Declared : Type 0 where
   pub iri : List ℕ
 
 abbrev pub SpellsDeclared : Declared → Text → Type 0
-SpellsDeclared d ts = ts ≡ says.Plain (codes "Prefix") ∷ says.Left ∷ says.Short d.prefix [] ∷ says.Equals ∷ says.Iri d.iri ∷ says.Right ∷ []
+SpellsDeclared d ts = ts ≡ says.Plain kw.Prefix ∷ says.Left ∷ says.Short d.prefix [] ∷ says.Equals ∷ says.Iri d.iri ∷ says.Right ∷ []
 
 -- the standard prefixes
 abbrev pub standard : List Declared
@@ -49,7 +49,7 @@ AreDistinct declared = AllPairs (λ d e. d.prefix ≢ e.prefix) declared
 
 -- Import ( iri ), any number of times: in the wide grammar alone
 abbrev pub IsImport : Words → List ℕ → Text → Type 0
-IsImport words name ts = Compound (codes "Import") (IsName words name) ts
+IsImport words name ts = Compound kw.Import (IsName words name) ts
 
 abbrev pub Imports : Bool → Words → Text → Type 0
 Imports true words ts = (names : List (List ℕ)) × Many0 (IsImport words) names ts
@@ -63,7 +63,7 @@ pub data Matching : Text → Type 0 where
 
 -- a rule, which the wide grammar has as one more logical axiom
 abbrev pub IsRule : Text → Type 0
-IsRule ts = Compound (codes "DLSafeRule") Matching ts
+IsRule ts = Compound kw.DLSafeRule Matching ts
 
 -- the ontology's IRI and its version's, which may be absent
 abbrev pub IsHead : Words → Text → Type 0

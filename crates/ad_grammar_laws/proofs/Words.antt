@@ -8,7 +8,7 @@ use Rattle.ad_lex.specs.Lexemes.{Lexeme}
 use Rattle.ad_lex.specs.Lexemes as says
 use Rattle.ad_write.specs.Keywords as kw
 use Rattle.ad_write.specs.Canonical.{kind_word}
-use Rattle.ad_tree.specs.Signature.{is_logical}
+use Rattle.ad_tree.specs.Logical.{is_logical}
 use Rattle.ad_tree.specs.declared.names.ObjProp.{ObjProp}
 use Rattle.ad_tree.specs.declared.names.ObjProp.TheVariants as props
 use Rattle.ad_tree.specs.declared.names.Individual.{Individual}
@@ -16,8 +16,8 @@ use Rattle.ad_tree.specs.declared.names.Individual.TheVariants as individuals
 use Rattle.ad_tree.specs.declared.literals.Literal.{Literal}
 use Rattle.ad_tree.specs.declared.literals.Literal.TheVariants as literals
 use Rattle.ad_tree.specs.declared.literals.Facet.{Facet}
-use Rattle.ad_tree.specs.declared.entities.EntityKind.{EntityKind}
-use Rattle.ad_tree.specs.declared.entities.Entity.{Entity}
+use Rattle.ad_entity.specs.declared.entities.EntityKind.{EntityKind}
+use Rattle.ad_entity.specs.declared.entities.Entity.{Entity}
 use Rattle.ad_tree.specs.declared.notes.Subject.{Subject}
 use Rattle.ad_tree.specs.declared.notes.Subject.TheVariants as subjects
 use Rattle.ad_tree.specs.declared.notes.Value.{Value}

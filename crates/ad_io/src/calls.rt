@@ -4,7 +4,7 @@ ghost use Rattle.ad_io.specs.Memory.{after_call};
 use std::marker::Model;
 
 // Which calls of a source or a sink in memory fail, and how many were made and failed.
-#[derive(Debug, Drop)]
+#[derive(Drop)]
 pub(crate) struct Calls {
     fail: Vec<u64>,
     made: u64,

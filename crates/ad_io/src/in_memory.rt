@@ -13,7 +13,7 @@ use std::alloc::Global;
 use std::marker::Model;
 
 /// A source over bytes in memory, for tests: it gives small pieces, and fails at chosen calls.
-#[derive(Debug, Drop)]
+#[derive(Drop)]
 pub struct MemSource {
     rest: Rest,
     piece: usize,
@@ -74,7 +74,7 @@ impl Source for MemSource {
 }
 
 /// A sink into memory, for tests: it takes small pieces, and fails at chosen calls.
-#[derive(Debug, Drop)]
+#[derive(Drop)]
 pub struct MemSink {
     store: Store,
     piece: usize,

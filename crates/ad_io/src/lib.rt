@@ -18,6 +18,4 @@ mod source;
 mod standard;
 mod store;
 mod sure;
-#[cfg(test)]
-mod tests;
 mod writes;

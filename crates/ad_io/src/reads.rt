@@ -1,12 +1,13 @@
 ghost use Rattle.std.specs.Prelude.{◌≡◌, ℕ, List, ◌+◌, ◌<◌, ◌≤◌, length, take, drop, vec_len, IfOk, OnOk, IsOk, IsErrOf, Some, IsSome};
 ghost use Rattle.ad_io.specs.Flow.{Loses, LosesExactly, LosesAtMost, IsAtEnd, Rose};
 ghost use Rattle.ad_io.specs.Source.{Reads, ReadCause};
+ghost use Rattle.ad_io.specs.Reading.{IsReading, ReadingCause};
 
 use crate::source::{Got, Source};
 use std::alloc::{AllocError, Global};
 
 /// Why a source was not read to its end.
-#[derive(Clone, Copy, Debug, PartialEq, Eq, Hash)]
+#[derive(Clone, Copy)]
 pub enum ReadEnd {
     /// The source failed.
     Failed,
@@ -64,6 +65,29 @@ fn read_behind<S: Source>(source: &mut S, bytes: &mut Vec<u8>, filled: usize) ->
     source.read(&mut bytes[filled..])
 }
 
+// Reads all that is left into a list that is empty, but no more than one byte above the limit.
+fn read_into<S: Source>(source: &mut S, bytes: &mut Vec<u8>, limit: usize) -> Result<(), ReadEnd>
+    requires empty { vec_len bytes.old ≡ 0 }
+    requires limit { limit < 4294967295 }
+    ensures bytes { IsReading (S.left source.old) (S.left source.new) limit bytes.new.items result }
+    ensures cause { ReadingCause (S.faults source.old) (S.faults source.new) result }
+{
+    let most = limit + 1;
+    let mut filled = 0;
+    while filled < most {
+        make_room(bytes, filled, most)?;
+        match read_behind(source, bytes, filled) {
+            Got::Bytes(n) => filled += n,
+            Got::End => {
+                bytes.truncate(filled);
+                return Ok(());
+            }
+            Got::Failed => return Err(ReadEnd::Failed),
+        }
+    }
+    Err(ReadEnd::Long)
+}
+
 /// All the bytes that are left, of which there may be at most `limit`. It never takes more than `limit + 1`.
 pub fn read_to_end<S: Source>(alloc: Global, source: &mut S, limit: u64) -> Result<Vec<u8>, ReadEnd>
     requires { limit < 4294967295 }
@@ -86,19 +110,9 @@ pub fn read_to_end<S: Source>(alloc: Global, source: &mut S, limit: u64) -> Resu
     ensures too_long { (text : List ℕ) → S.left source.old ≡ Some text → IsSome (S.left source.new) → IsErrOf result ReadEnd.Long → limit < length text }
     ensures not_too_long { (text : List ℕ) → S.left source.old ≡ Some text → IsSome (S.left source.new) → IsOk result → length text ≤ limit }
 {
-    let most = limit as usize + 1;
     let mut bytes = Vec::new(alloc);
-    let mut filled = 0;
-    while filled < most {
-        make_room(&mut bytes, filled, most)?;
-        match read_behind(source, &mut bytes, filled) {
-            Got::Bytes(n) => filled += n,
-            Got::End => {
-                bytes.truncate(filled);
-                return Ok(bytes);
-            }
-            Got::Failed => return Err(ReadEnd::Failed),
-        }
+    match read_into(source, &mut bytes, limit as usize) {
+        Ok(()) => Ok(bytes),
+        Err(end) => Err(end),
     }
-    Err(ReadEnd::Long)
 }

@@ -6,7 +6,7 @@ use crate::source::Got;
 use std::marker::Model;
 
 // Bytes in memory of which a part was given. It is seen as the bytes that are left.
-#[derive(Debug, Drop)]
+#[derive(Drop)]
 pub(crate) struct Rest {
     bytes: Vec<u8>,
     given: usize,

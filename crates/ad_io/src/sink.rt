@@ -2,7 +2,7 @@ ghost use Rattle.std.specs.Prelude.{ℕ, List, Option, ◌<◌, length};
 ghost use Rattle.ad_io.specs.Sink.{Takes, WriteCause};
 
 /// What one call of a sink took.
-#[derive(Clone, Copy, Debug, PartialEq, Eq, Hash)]
+#[derive(Clone, Copy)]
 pub enum Put {
     /// That many bytes from the piece's front, at least one.
     Took(usize),

@@ -2,7 +2,7 @@ ghost use Rattle.std.specs.Prelude.{ℕ, List, Option, ◌<◌, length};
 ghost use Rattle.ad_io.specs.Source.{Reads, ReadCause};
 
 /// What one call of a source gave.
-#[derive(Clone, Copy, Debug, PartialEq, Eq, Hash)]
+#[derive(Clone, Copy)]
 pub enum Got {
     /// That many bytes, at least one.
     Bytes(usize),

@@ -7,7 +7,7 @@ use std::alloc::Global;
 use std::marker::Model;
 
 // The first `room` bytes of all that were taken, and a count of the others.
-#[derive(Debug, Drop)]
+#[derive(Drop)]
 pub(crate) struct Store {
     kept: Vec<u8>,
     rest: u64,

@@ -13,7 +13,7 @@ use std::alloc::Global;
 use std::marker::Model;
 
 /// A source over bytes in memory that never fails. It is seen as the bytes that are left.
-#[derive(Debug, Drop)]
+#[derive(Drop)]
 pub struct SureSource {
     rest: Rest,
 }
@@ -57,7 +57,7 @@ impl Source for SureSource {
 }
 
 /// A sink into memory that never fails. It is seen as its store.
-#[derive(Debug, Drop)]
+#[derive(Drop)]
 pub struct SureSink {
     store: Store,
 }

@@ -5,7 +5,7 @@ ghost use Rattle.ad_io.specs.Sink.{Puts, PutCause, wrote_of};
 use crate::sink::{Put, Sink};
 
 /// How a call that writes a whole piece ended.
-#[derive(Clone, Copy, Debug, PartialEq, Eq, Hash)]
+#[derive(Clone, Copy, Debug, PartialEq, Eq)]
 pub enum Wrote {
     /// All of it was written.
     All,
@@ -14,7 +14,7 @@ pub enum Wrote {
 }
 
 /// The sink failed. With it writers of several pieces stop by `?`.
-#[derive(Clone, Copy, Debug, PartialEq, Eq, Hash)]
+#[derive(Clone, Copy)]
 pub struct Failed;
 
 impl From<Result<(), Failed>> for Wrote {

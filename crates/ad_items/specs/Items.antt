@@ -130,3 +130,7 @@ split items ending taken left = record { items = items; ending = ending; taken =
 -- bytes are split in one way only
 abbrev pub SplitsOnce : Type 0
 SplitsOnce = (bounds : Bounds) (n : ℕ) (bytes : List ℕ) (one other : Split) → Items bounds n bytes one.items one.ending one.taken one.left → Items bounds n bytes other.items other.ending other.taken other.left → one ≡ other
+
+-- and there is such a way
+abbrev pub SplitsAlways : Type 0
+SplitsAlways = (bounds : Bounds) (n : ℕ) (bytes : List ℕ) → (s : Split) × Items bounds n bytes s.items s.ending s.taken s.left

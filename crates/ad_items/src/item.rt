@@ -13,7 +13,7 @@ use ad_request::{Request, read_request};
 use std::alloc::Global;
 
 /// The payload of an item.
-#[derive(Debug, Drop)]
+#[derive(Drop)]
 pub enum Payload {
     /// All its bytes.
     Full(Vec<u8>),
@@ -22,7 +22,7 @@ pub enum Payload {
 }
 
 /// What stands next in the input.
-#[derive(Debug, Drop)]
+#[derive(Drop)]
 pub enum Next {
     /// A line, with what it asks for, and its payload.
     Item(Option<Request>, Payload),

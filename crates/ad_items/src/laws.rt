@@ -1,6 +1,7 @@
-ghost use Rattle.ad_items.specs.Items.{SplitsOnce};
+ghost use Rattle.ad_items.specs.Items.{SplitsAlways, SplitsOnce};
 
-/// The input is split into items and an end in one way only.
+/// All input is split into items and an end, in one way only.
 pub fn one_split()
-    ensures { SplitsOnce }
+    ensures some { SplitsAlways }
+    ensures one { SplitsOnce }
 {}

@@ -9,5 +9,3 @@ mod item;
 mod laws;
 mod line;
 mod payload;
-#[cfg(test)]
-mod tests;

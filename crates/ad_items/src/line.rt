@@ -10,7 +10,7 @@ use std::marker::Model;
 const MOST: usize = 257;
 
 /// The line that was read last. All its memory is taken at once.
-#[derive(Debug, Drop)]
+#[derive(Drop)]
 pub struct Line {
     bytes: Vec<u8>,
 }

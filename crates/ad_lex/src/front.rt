@@ -7,7 +7,7 @@ use crate::kind::{CharKind, is_iri, is_word, kind_of};
 use crate::token::Mark;
 
 /// What stands at the front of a text.
-#[derive(Clone, Copy, Debug, PartialEq, Eq)]
+#[derive(Clone, Copy)]
 pub enum Front {
     /// Nothing: the text is over.
     Over,

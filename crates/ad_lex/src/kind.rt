@@ -2,7 +2,7 @@ ghost use Rattle.std.specs.Prelude.{◌≡◌};
 ghost use Rattle.ad_lex.specs.Characters.{kind_of, is_blank, is_word, is_iri};
 
 /// The kinds of characters that the rules on tokens tell apart.
-#[derive(Clone, Copy, Debug, PartialEq, Eq)]
+#[derive(Clone, Copy)]
 pub enum CharKind {
     /// Space, tab, CR or LF.
     Blank,

@@ -10,6 +10,4 @@ mod kind;
 mod laws;
 mod lexer;
 mod meaning;
-#[cfg(test)]
-mod tests;
 mod token;

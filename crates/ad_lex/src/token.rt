@@ -6,7 +6,7 @@ use std::marker::Model;
 use thiserror::Error;
 
 /// What a token is.
-#[derive(Clone, Copy, Debug, PartialEq, Eq, Hash)]
+#[derive(Clone, Copy, PartialEq, Eq)]
 pub enum Mark {
     Left,
     Right,
@@ -29,7 +29,7 @@ pub enum Mark {
 }
 
 /// A token, which stands in its text from the byte `from` up to the byte `to`.
-#[derive(Clone, Copy, Debug, PartialEq, Eq, Hash)]
+#[derive(Clone, Copy)]
 pub struct Token {
     pub from: u32,
     pub to: u32,
@@ -37,7 +37,7 @@ pub struct Token {
 }
 
 /// The tokens of a text, which contracts see as a list.
-#[derive(Debug, Drop)]
+#[derive(Drop)]
 pub struct Tokens {
     items: Vec<Token>,
     ghost few: { vec_len items < 2 ^ 32 },
@@ -88,7 +88,7 @@ pub enum LexFault {
 }
 
 /// Why `tokens` gives none.
-#[derive(Clone, Copy, Debug, PartialEq, Eq, Error)]
+#[derive(Clone, Copy, Debug, Error)]
 pub enum LexRefused {
     #[error("{0}")]
     Fault(LexFault),

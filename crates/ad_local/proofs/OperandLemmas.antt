@@ -4,22 +4,33 @@ use Rattle.std.proofs.Math.Bool.{or_assoc, and_assoc}
 use Rattle.std.specs.List.{list_all}
 use Rattle.std.proofs.lemmas.List.{at_drop_more, length-map}
 use Rattle.std.proofs.lemmas.List.Folds.{list_all-map}
-use Rattle.ad_tree.specs.declared.surely.Surely.{Surely}
-use Rattle.ad_tree.specs.Locality as table
-use Rattle.ad_local.specs.Union.{either_of}
+use Rattle.ad_locality.specs.declared.surely.Surely.{Surely}
+use Rattle.ad_locality.specs.Locality as table
+use Rattle.ad_local.specs.Pairs.{both_of, either_of}
 
-some_of_assoc : (a b c : Surely) → table.some_of a (table.some_of b c) ≡ table.some_of (table.some_of a b) c
-some_of_assoc a b c = rw (or_assoc a.empty b.empty c.empty, and_assoc a.whole b.whole c.whole) refl
+-- the third column of an intersection of three
+nonempty_assoc : (an aw bw bn cw cn : Bool) → ((an && (bw && cw)) || (aw && ((bn && cw) || (bw && cn)))) ≡ ((((an && bw) || (aw && bn)) && cw) || ((aw && bw) && cn))
+nonempty_assoc false false bw bn cw cn = refl
+nonempty_assoc true false true bn cw cn = refl
+nonempty_assoc true false false bn cw cn = refl
+nonempty_assoc false true bw bn cw cn = refl
+nonempty_assoc true true false bn cw cn = refl
+nonempty_assoc true true true bn true cn = refl
+nonempty_assoc true true true true false cn = refl
+nonempty_assoc true true true false false cn = refl
+
+both_of_assoc : (a b c : Surely) → both_of a (both_of b c) ≡ both_of (both_of a b) c
+both_of_assoc a b c = rw (or_assoc a.empty b.empty c.empty, and_assoc a.whole b.whole c.whole, nonempty_assoc a.nonempty a.whole b.whole b.nonempty c.whole c.nonempty) refl
 
 either_of_assoc : (a b c : Surely) → either_of a (either_of b c) ≡ either_of (either_of a b) c
-either_of_assoc a b c = rw (or_assoc a.whole b.whole c.whole, and_assoc a.empty b.empty c.empty) refl
+either_of_assoc a b c = rw (and_assoc a.empty b.empty c.empty, or_assoc a.whole b.whole c.whole, or_assoc a.nonempty b.nonempty c.nonempty) refl
 
 pub intersection_more : {X : Type 0} (f : X → Surely) (found : Surely) (xs : List X) (i : ℕ) (x : X) → i < length xs → x ≡ get_or xs i x
-    → table.some_of (table.some_of found (f x)) (table.intersection (map f (drop (i + 1) xs))) ≡ table.some_of found (table.intersection (map f (drop i xs)))
+    → both_of (both_of found (f x)) (table.intersection (map f (drop (i + 1) xs))) ≡ both_of found (table.intersection (map f (drop i xs)))
 intersection_more f found xs i x l at = sym (
-    at_drop_more (λ ys. table.some_of found (table.intersection (map f ys))) xs i x l
-    ∙ ap (λ y. table.some_of found (table.intersection (map f (y ∷ drop (i + 1) xs)))) (sym at)
-    ∙ some_of_assoc found (f x) (table.intersection (map f (drop (i + 1) xs))))
+    at_drop_more (λ ys. both_of found (table.intersection (map f ys))) xs i x l
+    ∙ ap (λ y. both_of found (table.intersection (map f (y ∷ drop (i + 1) xs)))) (sym at)
+    ∙ both_of_assoc found (f x) (table.intersection (map f (drop (i + 1) xs))))
 
 pub union_more : {X : Type 0} (f : X → Surely) (found : Surely) (xs : List X) (i : ℕ) (x : X) → i < length xs → x ≡ get_or xs i x
     → either_of (either_of found (f x)) (table.union (map f (drop (i + 1) xs))) ≡ either_of found (table.union (map f (drop i xs)))

@@ -1,5 +1,5 @@
 ghost use Rattle.std.specs.Prelude.{◌≡◌};
-ghost use Rattle.ad_tree.specs.Locality as table;
+ghost use Rattle.ad_locality.specs.Locality as table;
 ghost use Rattle.ad_tree.specs.declared.axioms.Axiom.TheVariants as axioms;
 
 use crate::names::name_surely;
@@ -29,39 +29,44 @@ pub fn is_local<S: Seen>(side: Side, axiom: &Axiom, seen: &S) -> bool
         Axiom::InverseObjectProperties(r, s) => {
             both_or_neither(r.surely(side, seen), s.surely(side, seen))
         }
-        Axiom::ObjectPropertyDomain(r, c) => is_below(side, seen, r, c),
-        Axiom::ObjectPropertyRange(r, c) => is_below(side, seen, r, c),
-        Axiom::FunctionalObjectProperty(r) => r.surely(side, seen).empty,
-        Axiom::InverseFunctionalObjectProperty(r) => r.surely(side, seen).empty,
-        Axiom::ReflexiveObjectProperty(r) => r.surely(side, seen).whole,
-        Axiom::IrreflexiveObjectProperty(r) => r.surely(side, seen).empty,
-        Axiom::SymmetricObjectProperty(r) => is_below(side, seen, r, r),
-        Axiom::AsymmetricObjectProperty(r) => r.surely(side, seen).empty,
-        Axiom::TransitiveObjectProperty(r) => is_below(side, seen, r, r),
+        Axiom::ObjectPropertyDomain(r, c) | Axiom::ObjectPropertyRange(r, c) => {
+            is_below(side, seen, r, c)
+        }
+        Axiom::FunctionalObjectProperty(r)
+        | Axiom::InverseFunctionalObjectProperty(r)
+        | Axiom::IrreflexiveObjectProperty(r)
+        | Axiom::AsymmetricObjectProperty(r)
+        | Axiom::NegativeObjectPropertyAssertion(r, _, _) => r.surely(side, seen).empty,
+        Axiom::ReflexiveObjectProperty(r) | Axiom::ObjectPropertyAssertion(r, _, _) => {
+            r.surely(side, seen).whole
+        }
+        Axiom::SymmetricObjectProperty(r) | Axiom::TransitiveObjectProperty(r) => {
+            is_below(side, seen, r, r)
+        }
         Axiom::SubDataPropertyOf(r, s) => is_below(side, seen, r, s),
         Axiom::EquivalentDataProperties(rs) => are_equivalent(side, seen, rs.as_slice()),
         Axiom::DisjointDataProperties(rs) => are_disjoint(side, seen, rs.as_slice()),
         Axiom::DataPropertyDomain(r, c) => is_below(side, seen, r, c),
         Axiom::DataPropertyRange(r, d) => is_below(side, seen, r, d),
-        Axiom::FunctionalDataProperty(r) => r.surely(side, seen).empty,
+        Axiom::FunctionalDataProperty(r) | Axiom::NegativeDataPropertyAssertion(r, _, _) => {
+            r.surely(side, seen).empty
+        }
+        Axiom::DataPropertyAssertion(r, _, _) => r.surely(side, seen).whole,
         Axiom::DatatypeDefinition(d, e) => datatype_definition_is_local(side, seen, d, e),
         Axiom::HasKey(c, rs, us) => {
             c.surely(side, seen).empty
                 || any_empty(side, seen, rs.as_slice())
                 || any_empty(side, seen, us.as_slice())
         }
-        Axiom::SameIndividual(individuals) => individuals.as_slice().len() == 1,
-        Axiom::DifferentIndividuals(individuals) => individuals.as_slice().len() == 1,
+        Axiom::SameIndividual(individuals) | Axiom::DifferentIndividuals(individuals) => {
+            individuals.as_slice().len() == 1
+        }
         Axiom::ClassAssertion(c, _) => c.surely(side, seen).whole,
-        Axiom::ObjectPropertyAssertion(r, _, _) => r.surely(side, seen).whole,
-        Axiom::NegativeObjectPropertyAssertion(r, _, _) => r.surely(side, seen).empty,
-        Axiom::DataPropertyAssertion(r, _, _) => r.surely(side, seen).whole,
-        Axiom::NegativeDataPropertyAssertion(r, _, _) => r.surely(side, seen).empty,
-        Axiom::Declaration(_) => true,
-        Axiom::AnnotationAssertion(_, _, _) => true,
-        Axiom::SubAnnotationPropertyOf(_, _) => true,
-        Axiom::AnnotationPropertyDomain(_, _) => true,
-        Axiom::AnnotationPropertyRange(_, _) => true,
+        Axiom::Declaration(_)
+        | Axiom::AnnotationAssertion(_, _, _)
+        | Axiom::SubAnnotationPropertyOf(_, _)
+        | Axiom::AnnotationPropertyDomain(_, _)
+        | Axiom::AnnotationPropertyRange(_, _) => true,
     }
 }
 

@@ -1,38 +1,28 @@
-ghost use Rattle.std.specs.Prelude.{◌≡◌};
-ghost use Rattle.ad_tree.specs.Locality as table;
-ghost use Rattle.ad_tree.specs.declared.entities.EntityKind.TheVariants as kinds;
+ghost use Rattle.std.specs.Prelude.{◌≡◌, map};
+ghost use Rattle.ad_locality.specs.Locality as table;
+ghost use Rattle.ad_entity.specs.declared.entities.EntityKind.TheVariants as kinds;
 
 use crate::names::{name_surely, property_surely};
 use crate::ranges::range_surely;
 use crate::table::{
-    EVERYTHING, NEITHER, NOTHING, all_of, at_least, at_most, complement, either, exactly, some_of,
+    NONE_OF_ALL, all_of, at_least, at_most, both, complement, either, enumeration, exactly, some_of,
 };
 use ad_base::{Side, Word};
-use ad_tree::{Class, EntityKind, Range, Seen, Surely};
+use ad_locality::{EVERYTHING, NOTHING, Surely};
+use ad_tree::{Class, EntityKind, Range, Seen};
 
 /// What is sure of a class expression.
-#[tactic(auto, unfolding(ad_tree::specs::Locality::class_surely))]
+#[cycle(class_surely)]
+#[tactic(auto, unfolding(ad_locality::specs::Locality::class_surely))]
 pub fn class_surely<S: Seen>(side: Side, seen: &S, class: &Class) -> Surely
     ensures { result ≡ table.class_surely side (S.member seen.now) class.now }
 {
     match class {
         Class::Named(name) => name_surely(side, seen, EntityKind::Class, name),
-        Class::And(operands) => {
-            let mut found = EVERYTHING;
-            'intersection: for operand in operands.as_slice() {
-                found = some_of(found, class_surely(side, seen, operand));
-            }
-            found
-        }
-        Class::Or(operands) => {
-            let mut found = NOTHING;
-            'union: for operand in operands.as_slice() {
-                found = either(found, class_surely(side, seen, operand));
-            }
-            found
-        }
+        Class::And(operands) => intersection(side, seen, operands.as_slice()),
+        Class::Or(operands) => union(side, seen, operands.as_slice()),
         Class::Not(c) => complement(class_surely(side, seen, c.get())),
-        Class::OneOf(_) => NEITHER,
+        Class::OneOf(individuals) => enumeration(individuals.as_slice()),
         Class::ObjSome(r, c) => {
             some_of(
                 property_surely(side, seen, r),
@@ -78,6 +68,30 @@ pub fn class_surely<S: Seen>(side: Side, seen: &S, class: &Class) -> Surely
             exactly(*n, data_surely(side, seen, r), filler_surely(side, seen, d))
         }
     }
+}
+
+// What is sure of the intersection of these classes.
+#[cycle(class_surely)]
+fn intersection<S: Seen>(side: Side, seen: &S, operands: &[Class]) -> Surely
+    ensures { result ≡ table.intersection (map (table.class_surely side (S.member seen.now)) operands.now) }
+{
+    let mut found = NONE_OF_ALL;
+    'operands: for operand in operands {
+        found = both(found, class_surely(side, seen, operand));
+    }
+    found
+}
+
+// What is sure of the union of these classes.
+#[cycle(class_surely)]
+fn union<S: Seen>(side: Side, seen: &S, operands: &[Class]) -> Surely
+    ensures { result ≡ table.union (map (table.class_surely side (S.member seen.now)) operands.now) }
+{
+    let mut found = NOTHING;
+    'operands: for operand in operands {
+        found = either(found, class_surely(side, seen, operand));
+    }
+    found
 }
 
 // What is sure of a data property.

@@ -12,5 +12,3 @@ mod names;
 mod operands;
 mod ranges;
 mod table;
-#[cfg(test)]
-mod tests;

@@ -1,9 +1,10 @@
 ghost use Rattle.std.specs.Prelude.{◌≡◌};
-ghost use Rattle.ad_tree.specs.Locality as table;
+ghost use Rattle.ad_locality.specs.Locality as table;
 
-use crate::table::{NEITHER, outside};
+use crate::table::unless_seen;
 use ad_base::{Side, Word};
-use ad_tree::{EntityKind, ObjProp, Seen, Surely, standing};
+use ad_locality::{Surely, standing};
+use ad_tree::{EntityKind, ObjProp, Seen};
 
 /// What is sure of a name in the position of its kind: a built-in name is what it is, of a seen name
 /// nothing is sure, and any other is outside.
@@ -12,13 +13,7 @@ pub fn name_surely<S: Seen>(side: Side, seen: &S, kind: EntityKind, name: &Word)
 {
     match standing(kind, name) {
         Some(surely) => surely,
-        None => {
-            if seen.has(kind, name) {
-                NEITHER
-            } else {
-                outside(side)
-            }
-        }
+        None => unless_seen(seen.has(kind, name), side),
     }
 }
 

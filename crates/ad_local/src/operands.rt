@@ -1,19 +1,20 @@
 ghost use Rattle.std.specs.Prelude.{◌≡◌, ◌||◌, Bool, map};
 ghost use Rattle.std.specs.List.{list_any, list_all};
-ghost use Rattle.ad_tree.specs.Locality as table;
-ghost use Rattle.ad_tree.specs.declared.entities.Entity.{Entity};
-ghost use Rattle.ad_tree.specs.declared.entities.EntityKind.TheVariants as kinds;
+ghost use Rattle.ad_locality.specs.Locality as table;
+ghost use Rattle.ad_entity.specs.declared.entities.Entity.{Entity};
+ghost use Rattle.ad_entity.specs.declared.entities.EntityKind.TheVariants as kinds;
 
 use crate::classes::{class_surely, data_surely};
 use crate::names::property_surely;
 use crate::ranges::range_surely;
 use ad_base::{Side, Word};
-use ad_tree::{Class, ObjProp, Range, Seen, Surely};
+use ad_locality::Surely;
+use ad_tree::{Class, ObjProp, Range, Seen};
 
 // What an axiom speaks of: a class, a range, an object property, or a data property by its name.
 pub(crate) trait Operand {
     ghost use Rattle.ad_base.specs.declared.limits.Side.{Side};
-    ghost use Rattle.ad_tree.specs.declared.surely.Surely.{Surely};
+    ghost use Rattle.ad_locality.specs.declared.surely.Surely.{Surely};
 
     ghost surely_of: { Side → (Entity → Bool) → Self → Surely };
 

@@ -1,7 +1,7 @@
 ghost use Rattle.std.specs.Prelude.{◌≡◌, ◌++◌, fold, OnOk};
 ghost use Rattle.std.specs.List.{flat_map};
-ghost use Rattle.ad_tree.specs.Signature.{named, of_property, of_optional, of_range, of_class};
-ghost use Rattle.ad_tree.specs.declared.entities.EntityKind.TheVariants as kinds;
+ghost use Rattle.ad_locality.specs.Signature.{named, of_property, of_optional, of_range, of_class};
+ghost use Rattle.ad_entity.specs.declared.entities.EntityKind.TheVariants as kinds;
 
 use crate::collect::{Collect, take_individual, take_literal, take_named, take_property};
 use crate::lists::take_individuals;
@@ -10,7 +10,7 @@ use ad_base::{Memory, Word};
 use ad_tree::{Class, EntityKind, Range};
 
 // Hands on what occurs in a class expression.
-#[tactic(auto, unfolding(ad_tree::specs::Signature::of_class))]
+#[tactic(auto, unfolding(ad_locality::specs::Signature::of_class))]
 pub(crate) fn take_class<C: Collect>(class: &Class, into: &mut C) -> Result<(), Memory>
     ensures { OnOk result (into.new ≡ fold C.after into.old (of_class class.now)) }
 {

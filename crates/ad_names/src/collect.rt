@@ -1,10 +1,11 @@
 ghost use Rattle.std.specs.Prelude.{◌≡◌, fold, OnOk};
-ghost use Rattle.ad_tree.specs.Entities.{entity};
-ghost use Rattle.ad_tree.specs.Signature.{named, of_property, of_individual, of_literal};
-ghost use Rattle.ad_tree.specs.declared.entities.Entity.{Entity};
+ghost use Rattle.ad_entity.specs.Entities.{entity};
+ghost use Rattle.ad_locality.specs.Signature.{named, of_property, of_individual, of_literal};
+ghost use Rattle.ad_entity.specs.declared.entities.Entity.{Entity};
 
 use ad_base::{Memory, Word};
-use ad_tree::{EntityKind, Individual, Literal, ObjProp, standing};
+use ad_locality::standing;
+use ad_tree::{EntityKind, Individual, Literal, ObjProp};
 
 /// What takes entities one after another.
 pub trait Collect {
@@ -16,6 +17,7 @@ pub trait Collect {
 }
 
 // Hands a name in the position of its kind on, unless it is built in.
+#[tactic(auto, using(ad_locality::proofs::ColumnLemmas::has_columns))]
 pub(crate) fn take_named<C: Collect>(
     kind: EntityKind,
     name: &Word,

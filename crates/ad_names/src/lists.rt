@@ -1,7 +1,7 @@
 ghost use Rattle.std.specs.Prelude.{◌≡◌, fold, OnOk};
 ghost use Rattle.std.specs.List.{flat_map};
-ghost use Rattle.ad_tree.specs.Signature.{named, of_property, of_individual, of_literal};
-ghost use Rattle.ad_tree.specs.declared.entities.EntityKind.TheVariants as kinds;
+ghost use Rattle.ad_locality.specs.Signature.{named, of_property, of_individual, of_literal};
+ghost use Rattle.ad_entity.specs.declared.entities.EntityKind.TheVariants as kinds;
 
 use crate::collect::{Collect, take_individual, take_literal, take_named, take_property};
 use ad_base::{Memory, Word};

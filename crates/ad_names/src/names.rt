@@ -1,5 +1,5 @@
 ghost use Rattle.std.specs.Prelude.{◌≡◌, IsFalse, OnErr};
-ghost use Rattle.ad_tree.specs.declared.entities.Entity.{Entity};
+ghost use Rattle.ad_entity.specs.declared.entities.Entity.{Entity};
 ghost use Rattle.ad_names.specs.Names.{is_member, with_entity};
 
 use crate::collect::Collect;

@@ -1,5 +1,5 @@
 ghost use Rattle.std.specs.Prelude.{◌≡◌, fold, OnOk};
-ghost use Rattle.ad_tree.specs.Signature.{of_range};
+ghost use Rattle.ad_locality.specs.Signature.{of_range};
 
 use crate::collect::{Collect, take_named};
 use crate::lists::take_literals;
@@ -7,7 +7,7 @@ use ad_base::Memory;
 use ad_tree::{EntityKind, Range};
 
 // Hands on what occurs in a data range.
-#[tactic(auto, unfolding(ad_tree::specs::Signature::of_range))]
+#[tactic(auto, unfolding(ad_locality::specs::Signature::of_range))]
 pub(crate) fn take_range<C: Collect>(range: &Range, into: &mut C) -> Result<(), Memory>
     ensures { OnOk result (into.new ≡ fold C.after into.old (of_range range.now)) }
 {

@@ -1,3 +1,3 @@
 pub mod Trees
 pub mod Once
-pub mod Nestings
+pub mod Either

@@ -19,8 +19,8 @@ use Rattle.ad_grammar.specs.Faults.{Form, IsOf, IsLongest}
 use Rattle.ad_grammar.specs.Faults as form
 use Rattle.ad_grammar_laws.specs.Known.{IsKnown, AreKnown, Moved}
 use Rattle.ad_grammar_laws.proofs.Words.{class_moves, range_moves, property_moves, individual_moves, literal_moves}
-use Rattle.ad_build.specs.Items.{as_class, as_range, as_property, as_individual, as_literal}
-use Rattle.ad_build.specs.Lists.{is_unknown}
+use Rattle.ad_terms.specs.Items.{as_class, as_range, as_property, as_individual, as_literal}
+use Rattle.ad_prefixes.specs.Unknown.{is_unknown}
 use Rattle.ad_build.proofs.Phrases.{properties_read, individuals_read, literals_read, ranges_read}
 use Rattle.ad_build.proofs.ClassPhrases.{classes_read}
 use Rattle.ad_build.proofs.Uniqueness.{once}
@@ -89,7 +89,7 @@ module _ (words : Words) (text : List ℕ) where
           let f = later (sym (rw e refl) ∙ h) in
           record { before = t ∷ f.before; behind = f.behind; is = ap (λ us. t ∷ us) f.is; known = (known_if words (lexeme text t) e, f.known); unknown = f.unknown }
 
-  none_found : (ts : List Token) → find (λ t. is_unknown words (lexeme text t)) ts ≡ None → AreKnown words (lexemes text ts)
+  pub none_found : (ts : List Token) → find (λ t. is_unknown words (lexeme text t)) ts ≡ None → AreKnown words (lexemes text ts)
   none_found [] h = tt
   none_found (t ∷ ts) h = by_test (is_unknown words (lexeme text t)) refl (none_found ts)
     where

@@ -9,5 +9,3 @@ pub use phrases::{
 mod ends;
 mod laws;
 mod phrases;
-#[cfg(test)]
-mod tests;

@@ -13,7 +13,7 @@ ghost use Rattle.ad_grammar.specs.Texts.{in_force};
 ghost use Rattle.ad_grammar.specs.Faults as form;
 ghost use Rattle.ad_grammar.specs.Nesting.{nesting};
 ghost use Rattle.ad_grammar_laws.specs.Known.{AreKnown};
-ghost use Rattle.ad_build.specs.Declarations.{declarations};
+ghost use Rattle.ad_prefixes.specs.Declarations.{declarations};
 ghost use Rattle.ad_phrases.specs.Phrases.{HasPhrase, IsBuilt, IsBuiltOrMemory, IsUnknownIn, IsPrefixOrMemory, Refuses, RefusesIn};
 
 use crate::ends::{behind_class, behind_individual, behind_literal, behind_objprop, behind_range};

@@ -13,8 +13,8 @@ use Rattle.ad_lex.specs.Lexemes as says
 use Rattle.ad_grammar.specs.Shapes.{Text, Many0}
 use Rattle.ad_grammar.specs.Texts.{Declared, SpellsDeclared, AreDistinct, iri_of}
 use Rattle.ad_read.specs.Prefixed.{IsOver}
-use Rattle.ad_build.specs.Heads.{heads}
-use Rattle.ad_build.proofs.HeadLemmas.{heads_all, none_other, differs}
+use Rattle.ad_prefixes.specs.Heads.{heads}
+use Rattle.ad_prefixes.proofs.HeadLemmas.{heads_all, none_other, differs}
 use Rattle.ad_read.specs.Opened.{text_of}
 
 pub text_is : (ds : List Declared) (front : Text) → Many0 SpellsDeclared ds front → front ≡ text_of ds

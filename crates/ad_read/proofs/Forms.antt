@@ -8,13 +8,13 @@ use Rattle.ad_lex.specs.Lexemes.{Lexeme}
 use Rattle.ad_lex.specs.Lexemes as says
 use Rattle.ad_write.specs.Keywords as kw
 use Rattle.ad_write.specs.Canonical.{kind_word}
-use Rattle.ad_tree.specs.Signature.{is_logical}
+use Rattle.ad_tree.specs.Logical.{is_logical}
 use Rattle.ad_tree.specs.declared.axioms.Axiom.{Axiom}
 use Rattle.ad_tree.specs.declared.axioms.Axiom.TheVariants as axioms
 use Rattle.ad_tree.specs.declared.axioms.Noted.{Noted}
-use Rattle.ad_tree.specs.declared.entities.EntityKind.{EntityKind}
-use Rattle.ad_tree.specs.declared.entities.EntityKind.TheVariants as kinds
-use Rattle.ad_tree.specs.declared.entities.Entity.{Entity}
+use Rattle.ad_entity.specs.declared.entities.EntityKind.{EntityKind}
+use Rattle.ad_entity.specs.declared.entities.EntityKind.TheVariants as kinds
+use Rattle.ad_entity.specs.declared.entities.Entity.{Entity}
 use Rattle.ad_tree.specs.declared.edits.Op.{Op}
 use Rattle.ad_tree.specs.declared.edits.Sign.{Sign}
 use Rattle.ad_tree.specs.declared.edits.Sign.TheVariants as signs

@@ -3,3 +3,4 @@ pub mod Forms
 pub mod Opening
 pub mod Outcomes
 pub mod Refusals
+pub mod Either

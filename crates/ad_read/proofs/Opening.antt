@@ -7,7 +7,7 @@ use Rattle.ad_lex.specs.Lexemes.{Lexeme, lexeme, lexemes}
 use Rattle.ad_lex.specs.Lexemes as says
 use Rattle.ad_lex.specs.declared.token.Token.{Token}
 use Rattle.ad_tree.specs.declared.axioms.Noted.{Noted}
-use Rattle.ad_tree.specs.declared.entities.Entity.{Entity}
+use Rattle.ad_entity.specs.declared.entities.Entity.{Entity}
 use Rattle.ad_tree.specs.declared.edits.Op.{Op}
 use Rattle.ad_grammar.specs.Shapes.{Text, Many0}
 use Rattle.ad_grammar.specs.Names.{Words, SpellsEntity}
@@ -17,12 +17,13 @@ use Rattle.ad_grammar.specs.Faults.{Form, IsFirstFault}
 use Rattle.ad_check.specs.Stops.{Says}
 use Rattle.ad_check.specs.declared.texts.Stop.{Stop}
 use Rattle.ad_grammar_laws.specs.Known.{IsKnown, AreKnown}
-use Rattle.ad_build.specs.Declarations.{declarations}
-use Rattle.ad_build.specs.Heads.{heads}
-use Rattle.ad_build.specs.Phrased.{IsTwiceAt, IfTwice}
-use Rattle.ad_build.specs.declared.heads.PrefixRefused.{PrefixRefused}
-use Rattle.ad_build.specs.declared.heads.PrefixRefused.TheVariants.{Twice}
-use Rattle.ad_build.specs.Lists.{is_unknown, addition}
+use Rattle.ad_prefixes.specs.Declarations.{declarations}
+use Rattle.ad_prefixes.specs.Heads.{heads}
+use Rattle.ad_prefixes.specs.Phrased.{IsTwiceAt, IfTwice}
+use Rattle.ad_prefixes.specs.declared.heads.PrefixRefused.{PrefixRefused}
+use Rattle.ad_prefixes.specs.declared.heads.PrefixRefused.TheVariants.{Twice}
+use Rattle.ad_prefixes.specs.Unknown.{is_unknown}
+use Rattle.ad_build.specs.Lists.{addition}
 use Rattle.ad_read.specs.Prefixed.{IsOver}
 use Rattle.ad_read.specs.Texts.{IsShallow, IsFormed, IsDocument, IsEdit, IsSeed, IsSingle, place}
 use Rattle.ad_read.specs.Outcome.{Refuses}

@@ -10,7 +10,7 @@ use Rattle.ad_lex.specs.Lexemes as says
 use Rattle.ad_lex.specs.declared.token.Token.{Token}
 use Rattle.ad_lex.proofs.Once.{lexed_once, lexed_or_fault}
 use Rattle.ad_tree.specs.declared.axioms.Noted.{Noted}
-use Rattle.ad_tree.specs.declared.entities.Entity.{Entity}
+use Rattle.ad_entity.specs.declared.entities.Entity.{Entity}
 use Rattle.ad_tree.specs.declared.edits.Op.{Op}
 use Rattle.ad_grammar.specs.Shapes.{Text, Many0}
 use Rattle.ad_grammar.specs.Names.{Words, SpellsEntity}
@@ -19,7 +19,7 @@ use Rattle.ad_grammar.specs.Texts.{Declared, AreDistinct, iri_of, in_force, Onto
 use Rattle.ad_grammar.specs.Faults.{Form, IsOf, IsFirstFault}
 use Rattle.ad_grammar_laws.specs.Known.{AreKnown}
 use Rattle.ad_grammar_laws.proofs.Words.{known_second}
-use Rattle.ad_build.specs.Items.{as_axiom}
+use Rattle.ad_terms.specs.Items.{as_axiom}
 use Rattle.ad_build.specs.Lists.{addition}
 use Rattle.ad_build.proofs.TextLemmas.{stated_read, operations_read, entities_of}
 use Rattle.ad_build.proofs.Uniqueness.{once, noteds_read}

@@ -1,5 +1,5 @@
 -- What is proved of every text.
-use Rattle.std.specs.Prelude.{◌≡◌, ◌≢◌, ℕ, List}
+use Rattle.std.specs.Prelude.{◌≡◌, ◌≢◌, ◌⊎◌, ℕ, List}
 use Rattle.ad_grammar.specs.Faults.{Form}
 use Rattle.ad_grammar.specs.Shapes.{Text}
 use Rattle.ad_grammar.specs.Texts.{Declared}
@@ -19,3 +19,7 @@ IsNotRefused {X} form spells = (limit : ℕ) (text : List ℕ) (x : X) (refused 
 -- and a text has one cause to be refused at most, want of memory aside
 abbrev pub IsRefusedOnce : Type 0
 IsRefusedOnce = (form : Form) (limit : ℕ) (text : List ℕ) (a b : ReadRefused) → a ≢ Memory → b ≢ Memory → Refuses form limit text a → Refuses form limit text b → a ≡ b
+
+-- and each text spells something, or has a cause to be refused
+abbrev pub SpellsOrIsRefused : {X : Type 0} → Form → (List Declared → X → Text → Type 0) → Type 0
+SpellsOrIsRefused {X} form spells = (limit : ℕ) (text : List ℕ) → ((x : X) × IsText form spells limit text x) ⊎ ((refused : ReadRefused) × (refused ≢ Memory) × Refuses form limit text refused)

@@ -8,9 +8,9 @@ use Rattle.ad_grammar.specs.Texts.{Declared, AreDistinct, in_force}
 use Rattle.ad_grammar.specs.Faults.{Form}
 use Rattle.ad_grammar.specs.Faults as form
 use Rattle.ad_check.specs.declared.texts.Stop.{Stop}
-use Rattle.ad_build.specs.Declarations.{declarations}
-use Rattle.ad_build.specs.Heads.{heads}
-use Rattle.ad_build.specs.Lists.{is_unknown}
+use Rattle.ad_prefixes.specs.Declarations.{declarations}
+use Rattle.ad_prefixes.specs.Heads.{heads}
+use Rattle.ad_prefixes.specs.Unknown.{is_unknown}
 use Rattle.ad_read.specs.Texts.{IsFormed, place}
 use Rattle.ad_read.specs.declared.texts.whole.Whole.{Whole}
 use Rattle.ad_read.specs.declared.texts.whole.Whole.TheVariants.{Document, Edit, Seed, Single}

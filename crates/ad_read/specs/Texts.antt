@@ -5,7 +5,7 @@ use Rattle.ad_lex.specs.Lexemes.{lexemes}
 use Rattle.ad_lex.specs.declared.token.Token.{Token}
 use Rattle.ad_tree.specs.declared.axioms.Noted.{Noted}
 use Rattle.ad_tree.specs.declared.edits.Op.{Op}
-use Rattle.ad_tree.specs.declared.entities.Entity.{Entity}
+use Rattle.ad_entity.specs.declared.entities.Entity.{Entity}
 use Rattle.ad_grammar.specs.Shapes.{Text}
 use Rattle.ad_grammar.specs.Nesting.{nesting, document_nesting}
 use Rattle.ad_grammar.specs.Texts.{Declared, AreDistinct, SpellsDocument, SpellsEdit, SpellsSeed, SpellsSingle}

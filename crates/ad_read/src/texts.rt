@@ -2,7 +2,7 @@ ghost use Rattle.std.specs.Prelude.{◌≡◌, ◌<◌, ◌^◌, ℕ, List, leng
 ghost use Rattle.ad_grammar.specs.Faults as form;
 ghost use Rattle.ad_tree.specs.declared.axioms.Noted.{Noted};
 ghost use Rattle.ad_tree.specs.declared.edits.Op.{Op};
-ghost use Rattle.ad_tree.specs.declared.entities.Entity.{Entity};
+ghost use Rattle.ad_entity.specs.declared.entities.Entity.{Entity};
 ghost use Rattle.ad_read.specs.Texts.{IsDocument, IsEdit, IsSeed, IsSingle};
 ghost use Rattle.ad_read.specs.Outcome.{Refuses, IsReadOrMemory};
 
@@ -17,8 +17,6 @@ use std::alloc::Global;
 use thiserror::Error;
 
 mod opened;
-#[cfg(test)]
-mod tests;
 mod whole;
 
 /// Why a text was not read. Places count bytes.

@@ -1,9 +1,10 @@
 ghost use Rattle.std.specs.Prelude.{◌≡◌, ◌+◌, length, map, IfOk, OnErr};
 ghost use Rattle.ad_io.specs.Sink.{Puts, PutCause};
+ghost use Rattle.ad_base.specs.Kinds.{kind_of};
 ghost use Rattle.ad_write.specs.Canonical.{canon, canon_document};
 ghost use Rattle.ad_reply.specs.Replies.{accepted, answer_line, answered, reply_bytes};
 ghost use Rattle.ad_reply.specs.Written.{PutsModule};
-ghost use Rattle.ad_sweep.specs.OntologyModule.{axioms_of};
+ghost use Rattle.ad_syntax_laws.specs.OntologyModule.{axioms_of};
 
 use crate::counts::CountsText;
 use crate::decimal::Decimal;
@@ -34,7 +35,7 @@ pub fn module_reply<K: Sink>(
     seed: &Seed,
     sink: &mut K,
 ) -> Result<Wrote, Memory>
-    ensures reply { IfOk result (PutsModule side edition.now.shown seed.now (K.written sink.old) (K.written sink.new)) }
+    ensures reply { IfOk result (PutsModule (kind_of side) edition.now.shown seed.now (K.written sink.old) (K.written sink.new)) }
     ensures cause { IfOk result (PutCause (K.faults sink.old) (K.faults sink.new)) }
     ensures memory { OnErr result (sink.new ≡ sink.old) }
 {

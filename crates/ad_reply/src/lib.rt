@@ -8,5 +8,3 @@ mod answers;
 mod counts;
 mod decimal;
 mod refusal;
-#[cfg(test)]
-mod tests;

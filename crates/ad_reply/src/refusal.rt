@@ -9,7 +9,7 @@ use ad_lex::LexFault;
 use ad_read::{ReadRefused, Unsupported};
 
 /// Why a line, or a line with its payload, isn't answered.
-#[derive(Clone, Copy, Debug, PartialEq, Eq)]
+#[derive(Clone, Copy)]
 pub enum Refusal {
     /// The line is no request.
     Request,

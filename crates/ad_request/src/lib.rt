@@ -6,5 +6,3 @@ pub use request::{Request, read_request};
 
 mod laws;
 mod request;
-#[cfg(test)]
-mod tests;

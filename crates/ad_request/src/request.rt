@@ -4,7 +4,7 @@ ghost use Rattle.ad_request.specs.Requests.{Asks, payload_size};
 use ad_base::{Kind, number};
 
 /// What a line of a session asks for. The numbers are the lengths of payloads, and of `Atom` the atom's number.
-#[derive(Clone, Copy, Debug, PartialEq, Eq, Hash)]
+#[derive(Clone, Copy)]
 pub enum Request {
     /// A document, as additions.
     Load(u64),

@@ -11,7 +11,7 @@ use Rattle.ad_read.proofs.Outcomes.{documents, text_once, text_refused}
 use Rattle.ad_reply.specs.declared.refusal.Refusal.TheVariants as refusals
 use Rattle.ad_tree.specs.declared.edits.Op.{Op}
 use Rattle.ad_run.specs.Causes.{IsUnfitFor, HasOneCause, IsOntologyOrUnfit}
-use Rattle.ad_run.specs.Output.{standard}
+use Rattle.ad_base.specs.Limits.{standard}
 
 some_same : (p q : Passed) → Some p ≡ Some q → p ≡ q
 some_same p q e = cc

@@ -15,13 +15,15 @@ use Rattle.ad_base.specs.declared.limits.Side.TheVariants as sides
 use Rattle.ad_base.specs.declared.limits.Kind.TheVariants as modules
 use Rattle.ad_lex.specs.Characters.{is_iri}
 use Rattle.ad_lex.proofs.Pieces.{bytes_same}
-use Rattle.ad_tree.specs.Entities.{entity}
-use Rattle.ad_tree.specs.declared.entities.EntityKind.{EntityKind}
-use Rattle.ad_tree.specs.declared.entities.EntityKind.TheVariants as kinds
-use Rattle.ad_tree.specs.declared.entities.Entity.{Entity}
-use Rattle.ad_run.specs.Command.{IsCommand, IsSeedEntity, kind_of, of_module, seed_word, command_words, module_word, IsOffered}
+use Rattle.ad_entity.specs.Entities.{entity, all_kinds}
+use Rattle.ad_entity.specs.declared.entities.EntityKind.{EntityKind}
+use Rattle.ad_entity.specs.declared.entities.EntityKind.TheVariants as kinds
+use Rattle.ad_entity.specs.declared.entities.Entity.{Entity}
+use Rattle.ad_base.specs.Kinds as module_kinds
+use Rattle.ad_base.specs.Kinds.{kind_of}
+use Rattle.ad_run.specs.Command.{IsCommand, IsSeedEntity, of_module, seed_word, command_words, IsOffered}
 use Rattle.ad_write.specs.Canonical.{kind_word}
-use Rattle.ad_run.specs.Words.{front_of, is_iri_behind, first_kind, all_kinds, kind_in, is_seed_word, are_seed_words, side_in, module_side, script_alone, script_with}
+use Rattle.ad_run.specs.Words.{front_of, is_iri_behind, first_kind, kind_in, is_seed_word, are_seed_words, side_in, module_side, script_alone, script_with}
 use Rattle.ad_run.specs.Runs.{IsNoModule, IsNoScript, IsSomeScript}
 use Rattle.ad_base.specs.Decimal.{IsNumber}
 use Rattle.std.proofs.lemmas.Fmt.{decimal_injective}
@@ -91,18 +93,18 @@ side_first : (b : Bool) (s s' : Side) (later : Option Side) → (if b then Some 
 side_first true s s' later h = inl (refl, let is : Some s ≡ Some s' = h in cc)
 side_first false s s' later h = inr h
 
-side_word : (word : List ℕ) (side : Side) → side_in word ≡ Some side → word ≡ module_word (kind_of side)
+side_word : (word : List ℕ) (side : Side) → side_in word ≡ Some side → word ≡ module_kinds.kind_word (kind_of side)
 side_word word side h = elim (side_first (same_text word (codes "bottom")) sides.Bottom side (if same_text word (codes "top") then Some sides.Top else None) h) [
-  | inl e ↦ bytes_same word (codes "bottom") e.0 ∙ ap (λ s. module_word (kind_of s)) e.1
+  | inl e ↦ bytes_same word (codes "bottom") e.0 ∙ ap (λ s. module_kinds.kind_word (kind_of s)) e.1
   | inr e ↦ elim (side_first (same_text word (codes "top")) sides.Top side None e) [
-    | inl f ↦ bytes_same word (codes "top") f.0 ∙ ap (λ s. module_word (kind_of s)) f.1
+    | inl f ↦ bytes_same word (codes "top") f.0 ∙ ap (λ s. module_kinds.kind_word (kind_of s)) f.1
     | inr f ↦ absurd (let wrong : None ≡ Some side = f in cc)
   ]
 ]
 
 -- what the test says of the words
 pub tells : (words : List (List ℕ)) (side : Side) → module_side words ≡ Some side
-    → (2 ≤ length words) × (are_seed_words (drop 2 words) ≡ true) × (get_or words 0 [] ≡ codes "module") × (get_or words 1 [] ≡ module_word (kind_of side))
+    → (2 ≤ length words) × (are_seed_words (drop 2 words) ≡ true) × (get_or words 0 [] ≡ codes "module") × (get_or words 1 [] ≡ module_kinds.kind_word (kind_of side))
 tells words side h =
     let test = some_if (nat_le 2 (length words) && (same_text (get_or words 0 []) (codes "module") && are_seed_words (drop 2 words))) (side_in (get_or words 1 [])) side h in
     let all = parts (nat_le 2 (length words)) (same_text (get_or words 0 []) (codes "module") && are_seed_words (drop 2 words)) test.0 in

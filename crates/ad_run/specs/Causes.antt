@@ -14,7 +14,8 @@ use Rattle.ad_session.specs.Flows.{Flow}
 use Rattle.ad_tree.specs.declared.axioms.Noted.{Noted}
 use Rattle.ad_tree.specs.declared.edits.Op.{Op}
 use Rattle.ad_run.specs.Inputs.{IsRead, payload_limit}
-use Rattle.ad_run.specs.Output.{IsOntology, standard}
+use Rattle.ad_base.specs.Limits.{standard}
+use Rattle.ad_run.specs.Output.{IsOntology}
 
 -- the text is no document, for this cause; or its ontology passes this limit on the edition before it, the first
 abbrev pub IsUnfitFor : List ℕ → Refusal → Type 0

@@ -3,22 +3,10 @@ use Rattle.std.specs.Prelude.{◌≡◌, ℕ, ◌≤◌, List, [], ◌∷◌, �
 use Rattle.std.specs.List.{AllByRecursion, list_all}
 use Rattle.ad_base.specs.declared.limits.Kind.{Kind}
 use Rattle.ad_base.specs.declared.limits.Kind.TheVariants as modules
-use Rattle.ad_base.specs.declared.limits.Side.{Side}
-use Rattle.ad_base.specs.declared.limits.Side.TheVariants as sides
+use Rattle.ad_base.specs.Kinds as module_kinds
 use Rattle.ad_lex.specs.Characters.{is_iri}
-use Rattle.ad_tree.specs.declared.entities.Entity.{Entity}
+use Rattle.ad_entity.specs.declared.entities.Entity.{Entity}
 use Rattle.ad_write.specs.Canonical.{kind_word}
-
--- the word of a kind of module
-abbrev pub module_word : Kind → List ℕ
-module_word modules.Bottom = codes "bottom"
-module_word modules.Top = codes "top"
-module_word modules.Star = codes "star"
-
--- the module of a side
-abbrev pub kind_of : Side → Kind
-kind_of sides.Bottom = modules.Bottom
-kind_of sides.Top = modules.Top
 
 -- an entity as a word: its keyword, =, and its IRI
 abbrev pub seed_word : Entity → List ℕ
@@ -31,8 +19,19 @@ pub data Command : Type 0 where
   -- the session whose requests are on the source, over a machine of one session, with this many workers, or one
   of_script : (workers : Option ℕ) → Command
 
+-- what a command reads from the source
+pub data Input : Type 0 where
+  -- a document, whose ontology it writes of
+  a_document : Input
+  -- the requests of a session
+  a_session : Input
+
+abbrev pub reads : Command → Input
+reads (of_module kind seed) = a_document
+reads (of_script workers) = a_session
+
 abbrev pub command_words : Command → List (List ℕ)
-command_words (of_module kind seed) = codes "module" ∷ module_word kind ∷ map seed_word seed
+command_words (of_module kind seed) = codes "module" ∷ module_kinds.kind_word kind ∷ map seed_word seed
 command_words (of_script None) = codes "script" ∷ []
 command_words (of_script (Some workers)) = codes "script" ∷ codes "--workers" ∷ decimal workers ∷ []
 
@@ -56,3 +55,7 @@ pub record IsCommand (words : List (List ℕ)) (command : Command) : Type 0 wher
 -- the words are those of no command
 abbrev pub IsNoCommand : List (List ℕ) → Type 0
 IsNoCommand words = (command : Command) → IsCommand words command → ⊥
+
+-- words spell one command at most
+abbrev pub SpellsOneCommand : Type 0
+SpellsOneCommand = (words : List (List ℕ)) (one other : Command) → IsCommand words one → IsCommand words other → one ≡ other

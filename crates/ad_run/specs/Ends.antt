@@ -1,31 +1,48 @@
 -- How a run of the program ends, in terms of its words and of the bytes of its source and its sink.
 use Rattle.std.specs.Prelude.{◌≡◌, ℕ, List, []}
-use Rattle.ad_base.specs.declared.limits.Kind.{Kind}
+use Rattle.ad_base.specs.Limits.{standard}
 use Rattle.ad_io.specs.Flow.{Gains, GainsFront}
-use Rattle.ad_edition.specs.Log.{Logged}
+use Rattle.ad_items.specs.Items.{bounds_of}
+use Rattle.ad_edition.specs.State.{State, at_first}
 use Rattle.ad_session.specs.Flows.{Flow}
 use Rattle.ad_session.specs.Ends.{SessionIs}
+use Rattle.ad_session.specs.Machines.{MachineAnswers}
 use Rattle.ad_session.specs.declared.ends.End.{End}
 use Rattle.ad_session.specs.declared.ends.End.TheVariants as ends
-use Rattle.ad_tree.specs.declared.entities.Entity.{Entity}
-use Rattle.ad_run.specs.Command.{Command, IsCommand, of_module, of_script}
-use Rattle.ad_reply.specs.declared.refusal.Refusal.{Refusal}
+use Rattle.ad_run.specs.declared.status.Status.{Status}
+use Rattle.ad_run.specs.declared.status.Status.TheVariants.{Done, Usage, Refused, Cut, TooLong, Spent, ReadFault, WriteFault, Memory}
+use Rattle.ad_run.specs.Statuses.{code_of}
+use Rattle.ad_run.specs.Command.{Command, IsCommand, IsNoCommand, Input, reads, a_document, a_session}
 use Rattle.ad_run.specs.Causes.{IsUnfit}
 use Rattle.ad_run.specs.Inputs.{IsRead}
-use Rattle.ad_run.specs.Output.{IsOutput, standard}
+use Rattle.ad_run.specs.Output.{IsOutput}
 
--- the source was read to its end, and the module of its text is the output
-pub record Finds (kind : Kind) (seed : List Entity) (a b : Flow) (output : List ℕ) : Type 0 where
+-- the source was read to its end, and this is the command's output on its text
+pub record Finds (command : Command) (a b : Flow) (output : List ℕ) : Type 0 where
   pub text : List ℕ
   pub read : IsRead a.left b.left text
-  pub is_output : IsOutput kind seed text output
+  pub is_output : IsOutput command text output
 
--- a session of the first edition was run to such an end
+-- What a command on a document did, by the status. The sink has exactly its output; or its input was refused for a
+-- cause, the source failed, or memory was wanting, and nothing was written; or the sink failed, and has a front of the
+-- output.
+abbrev pub DocumentEnds : Command → Flow → Flow → Status → Type 0
+DocumentEnds command a b Done = (output : List ℕ) × Finds command a b output × Gains a.written b.written output
+DocumentEnds command a b Usage = ⊥
+DocumentEnds command a b (Refused refusal) = IsUnfit refusal a b × Gains a.written b.written []
+DocumentEnds command a b Cut = ⊥
+DocumentEnds command a b TooLong = ⊥
+DocumentEnds command a b Spent = ⊥
+DocumentEnds command a b ReadFault = Gains a.written b.written []
+DocumentEnds command a b WriteFault = (output : List ℕ) × Finds command a b output × GainsFront a.written b.written output
+DocumentEnds command a b Memory = Gains a.written b.written []
+
+-- a session of a new machine was run to such an end
 pub record RunsSession (P : End → Type 0) (a b : Flow) : Type 0 where
   pub end : End
   pub fits : P end
-  pub log : List Logged
-  pub session : SessionIs standard 0 end a b [] log
+  pub machine : State
+  pub session : SessionIs MachineAnswers (bounds_of standard) end a b (at_first standard 1) machine
 
 -- the session was closed by its input
 abbrev pub IsClosing : End → Type 0
@@ -37,67 +54,65 @@ IsClosing ends.Spent = ⊥
 IsClosing ends.ReadFault = ⊥
 IsClosing ends.WriteFault = ⊥
 
--- it was broken off: the input was cut or too long, or had as many requests as a session may have
-abbrev pub IsBreak : End → Type 0
-IsBreak ends.Quit = ⊥
-IsBreak ends.Closed = ⊥
-IsBreak ends.Cut = Unit {0}
-IsBreak ends.TooLong = Unit {0}
-IsBreak ends.Spent = Unit {0}
-IsBreak ends.ReadFault = ⊥
-IsBreak ends.WriteFault = ⊥
+-- What a session did, by the status. The sink has exactly the replies of the whole session; or the session was broken
+-- off, since its input was cut or too long, or had as many requests as a session may have, or since the source or the
+-- sink failed, and the sink has the replies up to there; or memory was wanting, and nothing was written.
+abbrev pub ScriptEnds : Flow → Flow → Status → Type 0
+ScriptEnds a b Done = RunsSession IsClosing a b
+ScriptEnds a b Usage = ⊥
+ScriptEnds a b (Refused refusal) = ⊥
+ScriptEnds a b Cut = RunsSession (λ end. end ≡ ends.Cut) a b
+ScriptEnds a b TooLong = RunsSession (λ end. end ≡ ends.TooLong) a b
+ScriptEnds a b Spent = RunsSession (λ end. end ≡ ends.Spent) a b
+ScriptEnds a b ReadFault = RunsSession (λ end. end ≡ ends.ReadFault) a b
+ScriptEnds a b WriteFault = RunsSession (λ end. end ≡ ends.WriteFault) a b
+ScriptEnds a b Memory = Gains a.written b.written []
 
--- the command was done: the sink has exactly its output, or the replies of the whole session
-abbrev pub Does : Command → Flow → Flow → Type 0
-Does (of_module kind seed) a b = (output : List ℕ) × Finds kind seed a b output × Gains a.written b.written output
-Does (of_script workers) a b = RunsSession IsClosing a b
+-- what a command did, by what it reads
+abbrev pub EndsOn : Input → Command → Flow → Flow → Status → Type 0
+EndsOn a_document command a b status = DocumentEnds command a b status
+EndsOn a_session command a b status = ScriptEnds a b status
 
--- its input was refused for this cause, and nothing was written
-abbrev pub RefusesFor : Refusal → Command → Flow → Flow → Type 0
-RefusesFor refusal (of_module kind seed) a b = IsUnfit refusal a b × Gains a.written b.written []
-RefusesFor refusal (of_script workers) a b = ⊥
-
--- its input was refused: nothing was written, or the replies up to the break
-abbrev pub Refuses : Command → Flow → Flow → Type 0
-Refuses (of_module kind seed) a b = (refusal : Refusal) × RefusesFor refusal (of_module kind seed) a b
-Refuses (of_script workers) a b = RunsSession IsBreak a b
-
--- the session was broken off in this way, and the replies up to there were written
-abbrev pub BreaksSo : End → Command → Flow → Flow → Type 0
-BreaksSo end (of_module kind seed) a b = ⊥
-BreaksSo end (of_script workers) a b = RunsSession (λ e. e ≡ end) a b
-
--- the source failed: nothing was written, or the replies to the requests that were read whole
-abbrev pub FailsReading : Command → Flow → Flow → Type 0
-FailsReading (of_module kind seed) a b = Gains a.written b.written []
-FailsReading (of_script workers) a b = RunsSession (λ end. end ≡ ends.ReadFault) a b
-
--- the sink failed: it has a front of the output, or of the replies
-abbrev pub FailsWriting : Command → Flow → Flow → Type 0
-FailsWriting (of_module kind seed) a b = (output : List ℕ) × Finds kind seed a b output × GainsFront a.written b.written output
-FailsWriting (of_script workers) a b = RunsSession (λ end. end ≡ ends.WriteFault) a b
-
--- memory is wanting: nothing was written
-abbrev pub Wants : Command → Flow → Flow → Type 0
-Wants command a b = Gains a.written b.written []
-
--- the words are a command, of which this holds
-pub record Ran (words : List (List ℕ)) (P : Command → Flow → Flow → Type 0) (a b : Flow) : Type 0 where
+-- the words are a command, and it did this
+pub record Ran (words : List (List ℕ)) (a b : Flow) (status : Status) : Type 0 where
   pub command : Command
   pub commanded : IsCommand words command
-  pub ran : P command a b
+  pub ran : EndsOn (reads command) command a b status
 
+-- what the run did, by its status
+abbrev pub EndsSo : List (List ℕ) → Flow → Flow → Status → Type 0
+EndsSo words a b Done = Ran words a b Done
+EndsSo words a b Usage = IsNoCommand words
+EndsSo words a b (Refused refusal) = Ran words a b (Refused refusal)
+EndsSo words a b Cut = Ran words a b Cut
+EndsSo words a b TooLong = Ran words a b TooLong
+EndsSo words a b Spent = Ran words a b Spent
+EndsSo words a b ReadFault = Ran words a b ReadFault
+EndsSo words a b WriteFault = Ran words a b WriteFault
+EndsSo words a b Memory = Ran words a b Memory
+
+-- the run ended with a status of this code
+pub record EndsWith (words : List (List ℕ)) (a b : Flow) (code : ℕ) : Type 0 where
+  pub status : Status
+  pub coded : code_of status ≡ code
+  pub ran : Ran words a b status
+
+-- with 0: all was written
 abbrev pub IsDone : List (List ℕ) → Flow → Flow → Type 0
-IsDone words a b = Ran words Does a b
+IsDone words a b = Ran words a b Done
 
+-- with 3: the input was refused
 abbrev pub IsRefused : List (List ℕ) → Flow → Flow → Type 0
-IsRefused words a b = Ran words Refuses a b
+IsRefused words a b = EndsWith words a b 3
 
+-- with 4: the source failed
 abbrev pub IsUnread : List (List ℕ) → Flow → Flow → Type 0
-IsUnread words a b = Ran words FailsReading a b
+IsUnread words a b = Ran words a b ReadFault
 
+-- with 5: the sink failed
 abbrev pub IsCutOff : List (List ℕ) → Flow → Flow → Type 0
-IsCutOff words a b = Ran words FailsWriting a b
+IsCutOff words a b = Ran words a b WriteFault
 
+-- with 6: memory is wanting
 abbrev pub IsWanting : List (List ℕ) → Flow → Flow → Type 0
-IsWanting words a b = Ran words Wants a b
+IsWanting words a b = Ran words a b Memory

@@ -8,5 +8,4 @@ pub mod Causes
 pub mod Ends
 pub mod Answered
 pub mod Runs
-pub mod Scripts
 pub mod Asks

@@ -6,7 +6,7 @@ use Rattle.ad_reply.specs.Replies.{cause_words, line_of, refused}
 use Rattle.ad_session.specs.Flows.{Flow}
 use Rattle.ad_run.specs.declared.status.Status.{Status}
 use Rattle.ad_run.specs.declared.status.Status.TheVariants.{Done, Usage, Refused, Cut, TooLong, Spent, ReadFault, WriteFault, Memory}
-use Rattle.ad_run.specs.Runs.{EndsSo}
+use Rattle.ad_run.specs.Ends.{EndsSo}
 use Rattle.ad_run.specs.Statuses.{code_of}
 
 -- the line with these words
@@ -24,6 +24,12 @@ note_of Spent = note (codes "spent" ∷ [])
 note_of ReadFault = note (codes "read fault" ∷ [])
 note_of WriteFault = note (codes "write fault" ∷ [])
 note_of Memory = note (codes "memory" ∷ [])
+
+-- the notes got exactly this, or a front of it where they fail
+pub record IsNoted (old new : Option (List ℕ)) (before now : ℕ) (text : List ℕ) : Type 0 where
+  pub wrote : Wrote
+  pub told : Puts old new wrote text
+  pub cause : PutCause before now wrote
 
 -- the run ended so, its exit status says it, and the notes got exactly its note, or a front of it where they fail
 pub record IsTold (words : List (List ℕ)) (a b : Flow) (code : ℕ) (old new : Option (List ℕ)) (before now : ℕ) : Type 0 where

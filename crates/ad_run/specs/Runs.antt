@@ -1,15 +1,13 @@
--- How a run ends, by the status.
+-- Which commands the words are, and the exit status of a session.
 use Rattle.std.specs.Prelude.{◌≡◌, ℕ, ◌≤◌, List, Option}
 use Rattle.ad_base.specs.declared.limits.Kind.{Kind}
 use Rattle.ad_io.specs.Flow.{Rose}
 use Rattle.ad_items.specs.Items.{Ending, quit, closed, cut, too_long, spent}
 use Rattle.ad_session.specs.Flows.{Flow}
-use Rattle.ad_session.specs.declared.ends.End.TheVariants as ends
-use Rattle.ad_tree.specs.declared.entities.Entity.{Entity}
+use Rattle.ad_entity.specs.declared.entities.Entity.{Entity}
 use Rattle.ad_run.specs.declared.status.Status.{Status}
-use Rattle.ad_run.specs.declared.status.Status.TheVariants.{Done, Usage, Refused, Cut, TooLong, Spent, ReadFault, WriteFault, Memory}
-use Rattle.ad_run.specs.Command.{IsCommand, IsNoCommand, of_module, of_script}
-use Rattle.ad_run.specs.Ends.{Ran, RefusesFor, BreaksSo, IsDone, IsUnread, IsCutOff, IsWanting}
+use Rattle.ad_run.specs.declared.status.Status.TheVariants.{ReadFault, WriteFault}
+use Rattle.ad_run.specs.Command.{IsCommand, of_module, of_script}
 
 -- the words are those of some module
 pub record IsSomeModule (words : List (List ℕ)) : Type 0 where
@@ -27,18 +25,6 @@ IsNoModule words = (kind : Kind) (seed : List Entity) → IsCommand words (of_mo
 
 abbrev pub IsNoScript : List (List ℕ) → Type 0
 IsNoScript words = (workers : Option ℕ) → IsCommand words (of_script workers) → ⊥
-
--- what the run did, by its status
-abbrev pub EndsSo : List (List ℕ) → Flow → Flow → Status → Type 0
-EndsSo words a b Done = IsDone words a b
-EndsSo words a b Usage = IsNoCommand words
-EndsSo words a b (Refused refusal) = Ran words (RefusesFor refusal) a b
-EndsSo words a b Cut = Ran words (BreaksSo ends.Cut) a b
-EndsSo words a b TooLong = Ran words (BreaksSo ends.TooLong) a b
-EndsSo words a b Spent = Ran words (BreaksSo ends.Spent) a b
-EndsSo words a b ReadFault = IsUnread words a b
-EndsSo words a b WriteFault = IsCutOff words a b
-EndsSo words a b Memory = IsWanting words a b
 
 -- the exit status of a session whose input ends so, where nothing fails
 abbrev pub code_at : Ending → ℕ

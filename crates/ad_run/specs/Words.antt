@@ -5,8 +5,8 @@ use Rattle.ad_base.specs.Words.{same_text}
 use Rattle.ad_base.specs.declared.limits.Side.{Side}
 use Rattle.ad_base.specs.declared.limits.Side.TheVariants as sides
 use Rattle.ad_lex.specs.Characters.{is_iri}
-use Rattle.ad_tree.specs.declared.entities.EntityKind.{EntityKind}
-use Rattle.ad_tree.specs.declared.entities.EntityKind.TheVariants as kinds
+use Rattle.ad_entity.specs.declared.entities.EntityKind.{EntityKind}
+use Rattle.ad_entity.specs.Entities.{all_kinds}
 use Rattle.ad_write.specs.Canonical.{kind_word}
 
 -- what stands before the IRI in the word of an entity
@@ -21,9 +21,6 @@ is_iri_behind front word = starts_with nat_eq word front && list_all is_iri (dro
 abbrev pub first_kind : List EntityKind → List ℕ → Option EntityKind
 first_kind [] word = None
 first_kind (kind ∷ kinds') word = if is_iri_behind (front_of kind) word then Some kind else first_kind kinds' word
-
-abbrev pub all_kinds : List EntityKind
-all_kinds = kinds.Class ∷ kinds.Datatype ∷ kinds.ObjectProperty ∷ kinds.DataProperty ∷ kinds.AnnotationProperty ∷ kinds.NamedIndividual ∷ []
 
 -- the kind of the entity that a word names
 abbrev pub kind_in : List ℕ → Option EntityKind

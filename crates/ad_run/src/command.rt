@@ -1,10 +1,11 @@
 ghost use Rattle.std.specs.Prelude.{◌≡◌, ◌≤◌, ◌++◌, ◌∷◌, [], ℕ, List, length, IsTrue, IfOk, IfSome, IfNone, Some, decimal, drop, map};
 ghost use Rattle.std.specs.List.{AllByRecursion, list_all};
+ghost use Rattle.ad_base.specs.Kinds.{kind_of};
 ghost use Rattle.ad_lex.specs.Characters.{is_iri};
 ghost use Rattle.ad_base.specs.declared.limits.Side.{Side};
-ghost use Rattle.ad_tree.specs.Entities.{entity};
-ghost use Rattle.ad_tree.specs.declared.entities.Entity.{Entity};
-ghost use Rattle.ad_run.specs.Command.{IsCommand, IsSeedEntity, kind_of, of_module, seed_word};
+ghost use Rattle.ad_entity.specs.Entities.{entity};
+ghost use Rattle.ad_entity.specs.declared.entities.Entity.{Entity};
+ghost use Rattle.ad_run.specs.Command.{IsCommand, IsSeedEntity, of_module, seed_word};
 ghost use Rattle.ad_run.specs.Words.{are_seed_words, front_of, is_iri_behind, is_seed_word, kind_in, module_side, script_alone, script_with, side_in};
 ghost use Rattle.ad_run.specs.Runs.{IsNoModule, IsNoScript, IsSomeScript};
 ghost use Rattle.ad_run.specs.Asks.{AsksFor};
@@ -14,7 +15,7 @@ use ad_tree::{Entity, EntityKind, Seed};
 use std::alloc::Global;
 
 /// What the words ask for.
-#[derive(Clone, Copy, Debug, PartialEq, Eq, Hash)]
+#[derive(Clone, Copy)]
 pub(crate) enum Asked {
     /// The module of this side.
     Module(Side),

@@ -1,4 +1,5 @@
 ghost use Rattle.ad_run.specs.Causes.{HasOneCause, IsOntologyOrUnfit};
+ghost use Rattle.ad_run.specs.Command.{SpellsOneCommand};
 
 use ad_read::one_outcome;
 
@@ -10,3 +11,8 @@ pub fn document_laws()
 {
     one_outcome();
 }
+
+/// What is proved of all words: they spell one command at most.
+pub fn command_laws()
+    ensures { SpellsOneCommand }
+{}

@@ -2,8 +2,9 @@
 #![tactic(auto)]
 
 pub use ad_sweep::sweep;
-pub use laws::document_laws;
+pub use laws::{command_laws, document_laws};
 pub use run::run_once;
+pub use status::{memory, usage};
 
 mod command;
 mod laws;
@@ -12,5 +13,3 @@ mod ontology;
 mod run;
 mod script;
 mod status;
-#[cfg(test)]
-mod tests;

@@ -1,5 +1,7 @@
 ghost use Rattle.std.specs.Prelude.{◌<◌, ◌^◌, length};
+ghost use Rattle.ad_base.specs.Kinds.{kind_of};
 ghost use Rattle.ad_run.specs.Answered.{IsAnswered, AnswerCause};
+ghost use Rattle.ad_run.specs.Command.{of_module};
 
 use crate::ontology::{Unread, edition_of};
 use crate::status::Status;
@@ -19,7 +21,7 @@ pub(crate) fn answer_module<K: Sink>(
     sink: &mut K,
 ) -> Status
     requires { length text.now < 2 ^ 32 }
-    ensures answered { IsAnswered side seed.now text.now (K.written sink.old) (K.written sink.new) result }
+    ensures answered { IsAnswered (of_module (kind_of side) seed.now) text.now (K.written sink.old) (K.written sink.new) result }
     ensures cause { AnswerCause (K.faults sink.old) (K.faults sink.new) result }
 {
     let edition = match edition_of(alloc, text) {

@@ -9,7 +9,7 @@ use ad_reply::Refusal;
 use std::alloc::Global;
 
 /// Why a text gave no ontology.
-#[derive(Clone, Copy, Debug, PartialEq, Eq)]
+#[derive(Clone, Copy)]
 pub(crate) enum Unread {
     /// It is no document of an ontology within the limits, for this cause.
     Refused(Refusal),

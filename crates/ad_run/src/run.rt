@@ -1,14 +1,16 @@
 ghost use Rattle.std.specs.Prelude.{◌≡◌, ◌≢◌, ◌⊎◌, ◌<◌, ℕ, ◌≤◌, List, Some, IsSome, length};
+ghost use Rattle.ad_base.specs.Limits.{standard};
 ghost use Rattle.ad_io.specs.Flow.{Rose, NotRisen};
 ghost use Rattle.ad_items.specs.Items.{Items, Split, bounds_of};
 ghost use Rattle.ad_session.specs.Flows.{flow};
 ghost use Rattle.ad_tree.specs.declared.axioms.Noted.{Noted};
+ghost use Rattle.ad_run.specs.Causes.{too_long};
 ghost use Rattle.ad_run.specs.Command.{IsNoCommand};
-ghost use Rattle.ad_run.specs.Ends.{IsDone, IsRefused, IsUnread, IsCutOff, IsWanting};
+ghost use Rattle.ad_run.specs.Ends.{EndsSo, IsDone, IsRefused, IsUnread, IsCutOff, IsWanting};
 ghost use Rattle.ad_run.specs.Inputs.{payload_limit};
 ghost use Rattle.ad_run.specs.Notes.{IsTold};
-ghost use Rattle.ad_run.specs.Output.{IsOntology, IsNoOntology, standard};
-ghost use Rattle.ad_run.specs.Runs.{EndsSo, RunCause, IsSomeModule, IsSomeScript, code_at};
+ghost use Rattle.ad_run.specs.Output.{IsOntology, IsNoOntology};
+ghost use Rattle.ad_run.specs.Runs.{RunCause, IsSomeModule, IsSomeScript, code_at};
 ghost use Rattle.ad_run.specs.Statuses.{IsStatus};
 ghost use Rattle.ad_run.specs.Words.{module_side};
 
@@ -16,20 +18,10 @@ use crate::command::{Asked, named_seed, read_words};
 use crate::module::answer_module;
 use crate::script::run_script;
 use crate::status::Status;
-use ad_base::{Side, Which, Word};
+use ad_base::{Limits, Side, Which, Word};
 use ad_io::{ReadEnd, Sink, Source, read_to_end};
 use ad_reply::Refusal;
 use std::alloc::Global;
-
-// How many bytes a document has at most.
-const PAYLOAD: u64 = 33_554_432;
-
-// The refusal of a source with more.
-const TOO_LONG: Refusal = Refusal::Limit {
-    edition: 0,
-    which: Which::Payload,
-    count: PAYLOAD + 1,
-};
 
 /// Does what the words ask for: reads a document, or the requests of a session, from the source, writes to the sink,
 /// and tells a status other than 0 on the notes in a line. It always returns, with the exit status.
@@ -79,9 +71,7 @@ pub fn run_once<S: Source, K: Sink, N: Sink>(
     // memory is wanting before its first request.
     ensures session { (text : List ℕ) (s : Split) → IsSomeScript words.now → S.left source.old ≡ Some text → IsSome (S.left source.new) → Items (bounds_of standard) 0 text s.items s.ending s.taken s.left → NotRisen (S.faults source.old) (S.faults source.new) → NotRisen (K.faults sink.old) (K.faults sink.new) → (result ≡ code_at s.ending) ⊎ (result ≡ 6) }
 {
-    let status = run(alloc, words, source, sink);
-    let _wrote = status.tell(notes);
-    status.code()
+    run(alloc, words, source, sink).end(notes)
 }
 
 // The same up to the notes.
@@ -114,11 +104,22 @@ fn run_module<S: Source, K: Sink>(
         Ok(seed) => seed,
         Err(_memory) => return Status::Memory,
     };
-    let text = match read_to_end(alloc, source, PAYLOAD) {
+    let text = match read_to_end(alloc, source, Limits::standard().payload) {
         Ok(text) => text,
         Err(ReadEnd::Failed) => return Status::ReadFault,
-        Err(ReadEnd::Long) => return Status::Refused(TOO_LONG),
+        Err(ReadEnd::Long) => return Status::Refused(too_long()),
         Err(ReadEnd::Memory) => return Status::Memory,
     };
     answer_module(alloc, side, &seed, text.as_slice(), sink)
+}
+
+// The refusal of a source with more bytes than a document may have.
+fn too_long() -> Refusal
+    ensures { result ≡ too_long }
+{
+    Refusal::Limit {
+        edition: 0,
+        which: Which::Payload,
+        count: Limits::standard().payload + 1,
+    }
 }

@@ -1,7 +1,7 @@
 ghost use Rattle.std.specs.Prelude.{◌≡◌, ◌≤◌};
 ghost use Rattle.ad_session.specs.Flows.{flow};
 ghost use Rattle.ad_run.specs.Runs.{RunCause};
-ghost use Rattle.ad_run.specs.Scripts.{ScriptEnds};
+ghost use Rattle.ad_run.specs.Ends.{ScriptEnds};
 ghost use Rattle.ad_run.specs.Statuses.{status_of};
 
 use crate::status::Status;

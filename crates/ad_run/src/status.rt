@@ -1,14 +1,14 @@
-ghost use Rattle.std.specs.Prelude.{◌≡◌, ◌∷◌, codes};
+ghost use Rattle.std.specs.Prelude.{◌≡◌, ◌∷◌, [], codes};
 ghost use Rattle.ad_io.specs.Sink.{Puts, PutCause};
 ghost use Rattle.ad_reply.specs.Replies.{cause_words, refused};
-ghost use Rattle.ad_run.specs.Notes.{note, note_of};
+ghost use Rattle.ad_run.specs.Notes.{note, note_of, IsNoted};
 ghost use Rattle.ad_run.specs.Statuses.{code_of};
 
 use ad_io::{Sink, Wrote, put_all};
 use ad_reply::{Refusal, explain};
 
 /// How a run ends.
-#[derive(Clone, Copy, Debug, PartialEq, Eq)]
+#[derive(Clone, Copy)]
 pub(crate) enum Status {
     /// All was written.
     Done,
@@ -45,6 +45,15 @@ impl Status {
         }
     }
 
+    /// Tells the status in a line, and gives the exit status.
+    pub(crate) fn end<N: Sink>(self, notes: &mut N) -> u8
+        ensures code { result ≡ code_of self }
+        ensures told { IsNoted (N.written notes.old) (N.written notes.new) (N.faults notes.old) (N.faults notes.new) (note_of self) }
+    {
+        let _wrote = self.tell(notes);
+        self.code()
+    }
+
     /// Tells the status in a line.
     pub(crate) fn tell<N: Sink>(self, notes: &mut N) -> Wrote
         ensures bytes { Puts (N.written notes.old) (N.written notes.new) result (note_of self) }
@@ -62,6 +71,22 @@ impl Status {
             Status::Memory => put_all(notes, b"owlad: memory\n"),
         }
     }
+}
+
+/// Tells that words are those of no command, and gives the exit status.
+pub fn usage<N: Sink>(notes: &mut N) -> u8
+    ensures code { result ≡ 2 }
+    ensures told { IsNoted (N.written notes.old) (N.written notes.new) (N.faults notes.old) (N.faults notes.new) (note (codes "usage" ∷ [])) }
+{
+    Status::Usage.end(notes)
+}
+
+/// Tells that memory is wanting, and gives the exit status.
+pub fn memory<N: Sink>(notes: &mut N) -> u8
+    ensures code { result ≡ 6 }
+    ensures told { IsNoted (N.written notes.old) (N.written notes.new) (N.faults notes.old) (N.faults notes.new) (note (codes "memory" ∷ [])) }
+{
+    Status::Memory.end(notes)
 }
 
 // Tells why a document is refused.

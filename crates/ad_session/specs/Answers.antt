@@ -6,9 +6,9 @@ use Rattle.ad_request.specs.declared.request.Request.{Request}
 use Rattle.ad_items.specs.Items.{Item}
 use Rattle.ad_tree.specs.declared.edits.Op.{Op}
 use Rattle.ad_edition.specs.Apply.{applied, counts_of}
-use Rattle.ad_edition.specs.Log.{Logged, replay}
+use Rattle.ad_edition.specs.Log.{Logged, IsLog, replay}
 use Rattle.ad_edition.specs.Limit.{passed}
-use Rattle.ad_edition.specs.Sight.{Sight, tell}
+use Rattle.ad_edition.specs.Sight.{Sight, Footing, tell}
 use Rattle.ad_reply.specs.Replies.{Reply, answered, limited, no_memory, counts_body}
 use Rattle.ad_session.specs.Asked.{SpellsBatch}
 use Rattle.ad_session.specs.Says.{Says}
@@ -25,18 +25,18 @@ pass sight ticket count = record { sight = sight; ticket = ticket; count = count
 
 pub data Answers (limits : Limits) (old : Pass) (i : Item) (reply : Reply) (new : Pass) : Type 0 where
   -- no edit, or one that can't be read
-  said : (sight : Sight) → Says limits.depth old.sight i reply sight → new ≡ pass sight old.ticket old.count → Answers limits old i reply new
+  said : (footing : Footing) (sight : Sight) → Says limits.depth footing old.sight i reply sight → new ≡ pass sight old.ticket old.count → Answers limits old i reply new
   -- an accepted edit: the log that the session is told ends with its entry
   accepted : (request : Request) (ops : List Op) (log : List Logged) (entry : Logged) → i.asked ≡ Some request → SpellsBatch limits.depth request i.payload ops
-      → entry.ticket ≡ old.ticket → entry.batch ≡ ops → new ≡ pass (tell old.sight (log ++ entry ∷ [])) old.ticket (old.count + 1)
+      → IsLog (log ++ entry ∷ []) → entry.ticket ≡ old.ticket → entry.batch ≡ ops → new ≡ pass (tell old.sight (log ++ entry ∷ [])) old.ticket (old.count + 1)
       → passed limits (length log) (applied (replay log) ops) ≡ None → reply ≡ answered (length log + 1) (counts_body (counts_of (replay log) ops)) → Answers limits old i reply new
   -- an edit that passes a limit on the edition of the log that the session is told
   limited_edit : (request : Request) (ops : List Op) (log : List Logged) (which : Which) (count : ℕ) → i.asked ≡ Some request → SpellsBatch limits.depth request i.payload ops
-      → new ≡ pass (tell old.sight log) old.ticket old.count → passed limits (length log) (applied (replay log) ops) ≡ Some (record { which = which; count = count })
+      → IsLog log → new ≡ pass (tell old.sight log) old.ticket old.count → passed limits (length log) (applied (replay log) ops) ≡ Some (record { which = which; count = count })
       → reply ≡ limited (length log) which count → Answers limits old i reply new
   -- memory is wanting for the edit: the session may be told a log
   uncommitted : (request : Request) (ops : List Op) → i.asked ≡ Some request → SpellsBatch limits.depth request i.payload ops
-      → (new ≡ old) ⊎ ((log : List Logged) × (new ≡ pass (tell old.sight log) old.ticket old.count)) → reply ≡ no_memory → Answers limits old i reply new
+      → (new ≡ old) ⊎ ((log : List Logged) × IsLog log × (new ≡ pass (tell old.sight log) old.ticket old.count)) → reply ≡ no_memory → Answers limits old i reply new
 
 -- the replies follow the items in order
 abbrev pub SessionRun : Limits → Pass → List Item → List Reply → Pass → Type 0

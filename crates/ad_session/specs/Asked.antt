@@ -4,21 +4,22 @@ use Rattle.ad_request.specs.declared.request.Request.{Request}
 use Rattle.ad_request.specs.declared.request.Request.TheVariants.{Load, Edit, Module, Genuine, Atoms, Atom, Export, Stat, Quit}
 use Rattle.ad_grammar.specs.Faults.{edit, seed}
 use Rattle.ad_read.specs.Outcome.{Refuses}
-use Rattle.ad_read.specs.Texts.{IsEdit}
+use Rattle.ad_entity.specs.declared.entities.Entity.{Entity}
+use Rattle.ad_read.specs.Texts.{IsEdit, IsSeed}
 use Rattle.ad_read.specs.declared.texts.ReadRefused.{ReadRefused}
 use Rattle.ad_tree.specs.declared.edits.Op.{Op}
 
--- the requests that ask for something of the ontology
-abbrev pub IsQuery : Request → Type 0
-IsQuery (Load n) = ⊥
-IsQuery (Edit n) = ⊥
-IsQuery (Module kind n) = Unit {0}
-IsQuery (Genuine kind n) = Unit {0}
-IsQuery (Atoms kind) = Unit {0}
-IsQuery (Atom kind n) = Unit {0}
-IsQuery Export = Unit {0}
-IsQuery Stat = Unit {0}
-IsQuery Quit = ⊥
+-- the request asks for something of the ontology, and its payload spells what, with a nesting within the limit
+abbrev pub SpellsQuery : ℕ → Request → List ℕ → Type 0
+SpellsQuery depth (Load n) payload = ⊥
+SpellsQuery depth (Edit n) payload = ⊥
+SpellsQuery depth (Module kind n) payload = (seed : List Entity) × IsSeed depth payload seed
+SpellsQuery depth (Genuine kind n) payload = ⊥
+SpellsQuery depth (Atoms kind) payload = Unit {0}
+SpellsQuery depth (Atom kind n) payload = Unit {0}
+SpellsQuery depth Export payload = Unit {0}
+SpellsQuery depth Stat payload = Unit {0}
+SpellsQuery depth Quit payload = ⊥
 
 -- the requests whose answer takes memory
 abbrev pub TakesMemory : Request → Type 0

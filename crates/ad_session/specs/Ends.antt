@@ -1,14 +1,12 @@
--- How a session ends, and what a whole session over a machine is.
-use Rattle.std.specs.Prelude.{◌⊎◌, ℕ, ◌<◌, List, ◌++◌, length, flat_map}
-use Rattle.ad_base.specs.declared.limits.Limits.{Limits}
+-- How a session ends, and what a whole session is.
+use Rattle.std.specs.Prelude.{◌≡◌, ◌⊎◌, ℕ, ◌+◌, ◌<◌, List, ◌++◌, length, flat_map}
 use Rattle.ad_io.specs.Flow.{Loses, Gains, GainsFront, Rose}
-use Rattle.ad_items.specs.Items.{Bounds, bounds_of, Item, item_bytes, AreItems, Ending, quit, closed, cut, too_long, spent, Closes, InTime, IsShort, IsCutPayload}
-use Rattle.ad_edition.specs.Log.{Logged}
+use Rattle.ad_items.specs.Items.{Bounds, Item, item_bytes, AreItems, Ending, quit, closed, cut, too_long, spent, Closes, InTime, IsShort, IsCutPayload}
 use Rattle.ad_reply.specs.Replies.{Reply, reply_bytes}
 use Rattle.ad_session.specs.declared.ends.End.{End}
 use Rattle.ad_session.specs.declared.ends.End.TheVariants as ends
 use Rattle.ad_session.specs.Flows.{Flow}
-use Rattle.ad_session.specs.Machines.{MachineRun}
+use Rattle.ad_session.specs.Steps.{Steps}
 
 -- the bytes of items, and of replies
 abbrev pub items_bytes : List Item → List ℕ
@@ -50,10 +48,21 @@ EndsSo bounds ends.Spent count a b items replies = EndsAs bounds spent count a b
 EndsSo bounds ends.ReadFault count a b items replies = FailsReading bounds count a b items replies
 EndsSo bounds ends.WriteFault count a b items replies = FailsWriting a b items replies
 
--- a whole session of a machine, from its log before to its log after
-pub record SessionIs (limits : Limits) (session : ℕ) (end : End) (a b : Flow) (old new : List Logged) : Type 0 where
+-- how many items are counted as answered: all, but for the last one where its reply was cut
+abbrev pub IsCount : End → ℕ → ℕ → Type 0
+IsCount ends.Quit count answered = answered ≡ count
+IsCount ends.Closed count answered = answered ≡ count
+IsCount ends.Cut count answered = answered ≡ count
+IsCount ends.TooLong count answered = answered ≡ count
+IsCount ends.Spent count answered = answered ≡ count
+IsCount ends.ReadFault count answered = answered ≡ count
+IsCount ends.WriteFault count answered = answered + 1 ≡ count
+
+-- A whole session, from one state to another. A step says which reply an item may have in a state, and to which state
+-- it leads.
+pub record SessionIs {P : Type 0} (step : P → Item → Reply → P → Type 0) (bounds : Bounds) (end : End) (a b : Flow) (old new : P) : Type 0 where
   pub items : List Item
   pub replies : List Reply
-  pub items_are : AreItems (bounds_of limits) 0 items
-  pub run : MachineRun limits session old items replies new
-  pub ending : EndsSo (bounds_of limits) end (length items) a b items replies
+  pub items_are : AreItems bounds 0 items
+  pub run : Steps step old items replies new
+  pub ending : EndsSo bounds end (length items) a b items replies

@@ -3,7 +3,7 @@ use Rattle.std.specs.Prelude.{◌≡◌, ℕ, ◌+◌, ◌<◌, List, Some, ◌+
 use Rattle.ad_io.specs.Flow.{Loses, Gains}
 use Rattle.ad_request.specs.declared.request.Request.{Request}
 use Rattle.ad_items.specs.Items.{Bounds, Item, item_bytes, IsItem, AreItems}
-use Rattle.ad_edition.specs.Sight.{Sight}
+use Rattle.ad_edition.specs.Sight.{Sight, Footing}
 use Rattle.ad_tree.specs.declared.edits.Op.{Op}
 use Rattle.ad_reply.specs.Replies.{Reply}
 use Rattle.ad_session.specs.declared.ends.Pause.{Pause}
@@ -12,7 +12,7 @@ use Rattle.ad_session.specs.Asked.{SpellsBatch}
 use Rattle.ad_session.specs.Steps.{Steps}
 use Rattle.ad_session.specs.Says.{Says}
 use Rattle.ad_session.specs.Flows.{Flow}
-use Rattle.ad_session.specs.Ends.{EndsSo, items_bytes, replies_bytes}
+use Rattle.ad_session.specs.Ends.{EndsSo, IsCount, items_bytes, replies_bytes}
 
 -- an edit that was read: the item, and the operations that its payload spells
 pub record IsEdit (bounds : Bounds) (depth : ℕ) (i : Item) (ops : List Op) : Type 0 where
@@ -31,13 +31,13 @@ pub record PausesAt (bounds : Bounds) (depth count : ℕ) (a b : Flow) (items : 
 
 abbrev pub PausesSo : Bounds → ℕ → Pause → ℕ → ℕ → Flow → Flow → List Item → List Reply → Type 0
 PausesSo bounds depth (pauses.Edit batch) count answered a b items replies = PausesAt bounds depth count a b items replies batch × (answered ≡ count)
-PausesSo bounds depth (pauses.Ended end) count answered a b items replies = EndsSo bounds end count a b items replies
+PausesSo bounds depth (pauses.Ended end) count answered a b items replies = EndsSo bounds end count a b items replies × IsCount end count answered
 
 -- a talk after n answered items: what was left and written, and what the session has seen, before and after. Where it
--- pauses for an edit, all items so far were answered.
-pub record TalkIs (bounds : Bounds) (depth : ℕ) (pause : Pause) (n answered : ℕ) (a b : Flow) (old new : Sight) : Type 0 where
+-- pauses for an edit, all items so far were answered; where it ended, so many as the end says.
+pub record TalkIs (bounds : Bounds) (depth : ℕ) (footing : Footing) (pause : Pause) (n answered : ℕ) (a b : Flow) (old new : Sight) : Type 0 where
   pub items : List Item
   pub replies : List Reply
   pub items_are : AreItems bounds n items
-  pub run : Steps (Says depth) old items replies new
+  pub run : Steps (Says depth footing) old items replies new
   pub pauses : PausesSo bounds depth pause (n + length items) answered a b items replies

@@ -20,7 +20,7 @@ pub enum End {
 }
 
 /// Why a talk paused: an edit is to be made, or the session ended.
-#[derive(Debug, Drop)]
+#[derive(Drop)]
 pub enum Pause {
     Edit(Batch),
     Ended(End),

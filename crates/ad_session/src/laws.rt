@@ -1,11 +1,13 @@
-ghost use Rattle.ad_session.specs.Laws.{MachinesRunAsSessions};
+ghost use Rattle.ad_session.specs.Laws.{EnteredAlwaysGrows, LooksStayEntered, MachinesRunAsSessions};
 ghost use Rattle.ad_session.specs.Complete.{LinesAreRefused, ExportIsAnswered, ModuleIsAnswered, EditIsMade, EditIsRefused, TextIsRefused};
 
 use ad_read::one_outcome;
 
-/// What is proved of every session of a machine: it runs as each session does.
+/// What is proved of every session of a machine: it runs as each session does, and what it has entered only grows.
 pub fn session_laws()
-    ensures { MachinesRunAsSessions }
+    ensures runs { MachinesRunAsSessions }
+    ensures entered { EnteredAlwaysGrows }
+    ensures looks { LooksStayEntered }
 {}
 
 /// What is proved of every reply of a session of a machine: what can be answered is answered, unless memory is wanting,

@@ -10,13 +10,9 @@ pub use work::{Talk, Work};
 
 mod answers;
 mod ends;
-#[cfg(test)]
-mod input_tests;
 mod laws;
 mod queries;
 mod sessions;
 mod talking;
-#[cfg(test)]
-mod tests;
 mod turn;
 mod work;

@@ -16,7 +16,7 @@ use std::alloc::Global;
 
 // Answers `EXPORT` on the edition that the look gives.
 pub(crate) fn answer_export<K: Sink, L: Look>(look: &mut L, sink: &mut K) -> Wrote
-    ensures speaks { (depth : ℕ) (i : Item) → i.asked ≡ Some requests.Export → Speaks depth (L.sight look.old) (L.sight look.new) i (K.written sink.old) (K.written sink.new) result }
+    ensures speaks { (depth : ℕ) (i : Item) → i.asked ≡ Some requests.Export → Speaks depth (L.footing look.old) (L.sight look.old) (L.sight look.new) i (K.written sink.old) (K.written sink.new) result }
     ensures cause { PutCause (K.faults sink.old) (K.faults sink.new) result }
     ensures footing { L.footing look.new ≡ L.footing look.old }
     ensures limits { L.limits look.new ≡ L.limits look.old }
@@ -36,7 +36,7 @@ pub(crate) fn answer_module<K: Sink, L: Look>(
     limits: &Limits,
 ) -> Wrote
     requires { length payload.now < 2 ^ 32 }
-    ensures speaks { (i : Item) (n : ℕ) → i.asked ≡ Some (requests.Module kinds.Bottom n) → i.payload ≡ payload.now → Speaks limits.now.depth (L.sight look.old) (L.sight look.new) i (K.written sink.old) (K.written sink.new) result }
+    ensures speaks { (i : Item) (n : ℕ) → i.asked ≡ Some (requests.Module kinds.Bottom n) → i.payload ≡ payload.now → Speaks limits.now.depth (L.footing look.old) (L.sight look.old) (L.sight look.new) i (K.written sink.old) (K.written sink.new) result }
     ensures cause { PutCause (K.faults sink.old) (K.faults sink.new) result }
     ensures footing { L.footing look.new ≡ L.footing look.old }
     ensures limits { L.limits look.new ≡ L.limits look.old }
@@ -49,7 +49,7 @@ pub(crate) fn answer_module<K: Sink, L: Look>(
 
 // The same for a seed that was read.
 fn look_at_module<K: Sink, L: Look>(alloc: Global, seed: &Seed, look: &mut L, sink: &mut K) -> Wrote
-    ensures speaks { (depth : ℕ) (i : Item) (n : ℕ) → i.asked ≡ Some (requests.Module kinds.Bottom n) → IsSeed depth i.payload seed.now → Speaks depth (L.sight look.old) (L.sight look.new) i (K.written sink.old) (K.written sink.new) result }
+    ensures speaks { (depth : ℕ) (i : Item) (n : ℕ) → i.asked ≡ Some (requests.Module kinds.Bottom n) → IsSeed depth i.payload seed.now → Speaks depth (L.footing look.old) (L.sight look.old) (L.sight look.new) i (K.written sink.old) (K.written sink.new) result }
     ensures cause { PutCause (K.faults sink.old) (K.faults sink.new) result }
     ensures footing { L.footing look.new ≡ L.footing look.old }
     ensures limits { L.limits look.new ≡ L.limits look.old }

@@ -1,5 +1,9 @@
 ghost use Rattle.std.specs.Prelude.{◌≡◌, ◌<◌, ◌≤◌, length};
+ghost use Rattle.ad_edition.specs.Sight.{IsFront};
+ghost use Rattle.ad_edition.specs.State.{after_attend, entered_by};
+ghost use Rattle.ad_items.specs.Items.{bounds_of};
 ghost use Rattle.ad_session.specs.Flows.{flow};
+ghost use Rattle.ad_session.specs.Machines.{MachineAnswers};
 ghost use Rattle.ad_session.specs.Ends.{SessionIs};
 ghost use Rattle.ad_session.specs.Rounds.{RoundIs, KeepsOthers};
 
@@ -12,7 +16,7 @@ use ad_io::{Sink, Source};
 use std::alloc::Global;
 
 /// One session of a machine: reads and answers requests until the input ends. Each query is answered on the newest
-/// edition, and each accepted edit is one entry of the machine's log. It always returns.
+/// edition, which the session then enters, and each accepted edit is one entry of the machine's log. It always returns.
 pub fn session<S: Source, K: Sink>(
     alloc: Global,
     source: &mut S,
@@ -22,13 +26,17 @@ pub fn session<S: Source, K: Sink>(
     work: &mut Work,
 ) -> End
     requires { index < length machine.old.entered }
-    ensures session { SessionIs machine.old.limits index result (flow (S.left source.old) (S.faults source.old) (K.written sink.old) (K.faults sink.old)) (flow (S.left source.new) (S.faults source.new) (K.written sink.new) (K.faults sink.new)) machine.old.log machine.new.log }
+    ensures session { SessionIs MachineAnswers (bounds_of machine.old.limits) result (flow (S.left source.old) (S.faults source.old) (K.written sink.old) (K.faults sink.old)) (flow (S.left source.new) (S.faults source.new) (K.written sink.new) (K.faults sink.new)) (after_attend machine.old index) machine.new }
+    ensures entered { IsFront (entered_by machine.old index) (entered_by machine.new index) }
     ensures others { KeepsOthers index machine.old machine.new }
+    ensures looks { machine.new.session ≡ index }
+    ensures work { work.new.limits ≡ work.old.limits }
     ensures reads { S.faults source.old ≤ S.faults source.new }
     ensures writes { K.faults sink.old ≤ K.faults sink.new }
 {
     let mut answered = Talk::new(index);
     machine.attend(index);
+    machine.laws();
     'rounds: loop {
         match take_round(alloc, source, sink, machine, &mut answered, work) {
             None => {}
@@ -47,20 +55,22 @@ fn take_round<S: Source, K: Sink>(
     work: &mut Work,
 ) -> Option<End>
     requires looks { machine.old.session ≡ answered.old.chair }
-    requires index { answered.old.chair < length machine.old.entered }
-    ensures round { RoundIs machine.old.limits answered.old.chair result answered.old.answered answered.new.answered (flow (S.left source.old) (S.faults source.old) (K.written sink.old) (K.faults sink.old)) (flow (S.left source.new) (S.faults source.new) (K.written sink.new) (K.faults sink.new)) machine.old.log machine.new.log }
+    ensures round { RoundIs MachineAnswers (bounds_of machine.old.limits) result answered.old.answered answered.new.answered (flow (S.left source.old) (S.faults source.old) (K.written sink.old) (K.faults sink.old)) (flow (S.left source.new) (S.faults source.new) (K.written sink.new) (K.faults sink.new)) machine.old machine.new }
     ensures chair { answered.new.chair ≡ answered.old.chair }
-    ensures looks { machine.new.session ≡ machine.old.session }
-    ensures others { KeepsOthers answered.old.chair machine.old machine.new }
+    ensures work { work.new.limits ≡ work.old.limits }
     ensures reads { S.faults source.old ≤ S.faults source.new }
     ensures writes { K.faults sink.old ≤ K.faults sink.new }
 {
+    machine.laws();
     let limits = machine.limits();
     let index = answered.chair();
-    machine.enter(index);
     match talk(alloc, source, sink, machine, answered, work, limits) {
-        Pause::Ended(end) => Some(end),
+        Pause::Ended(end) => {
+            machine.laws();
+            Some(end)
+        }
         Pause::Edit(batch) => {
+            machine.laws();
             let outcome = machine.commit(alloc, index, &batch);
             answer(sink, answered, outcome)
         }

@@ -24,10 +24,11 @@ pub fn talk<S: Source, K: Sink, L: Look>(
     limits: Limits,
 ) -> Pause
     requires { AreWithinStandard limits }
-    ensures talk { TalkIs (bounds_of limits) limits.depth result talk.old.answered talk.new.answered (flow (S.left source.old) (S.faults source.old) (K.written sink.old) (K.faults sink.old)) (flow (S.left source.new) (S.faults source.new) (K.written sink.new) (K.faults sink.new)) (L.sight look.old) (L.sight look.new) }
+    ensures talk { TalkIs (bounds_of limits) limits.depth (L.footing look.old) result talk.old.answered talk.new.answered (flow (S.left source.old) (S.faults source.old) (K.written sink.old) (K.faults sink.old)) (flow (S.left source.new) (S.faults source.new) (K.written sink.new) (K.faults sink.new)) (L.sight look.old) (L.sight look.new) }
     ensures chair { talk.new.chair ≡ talk.old.chair }
     ensures footing { L.footing look.new ≡ L.footing look.old }
     ensures limits { L.limits look.new ≡ L.limits look.old }
+    ensures work { work.new.limits ≡ work.old.limits }
     ensures reads { S.faults source.old ≤ S.faults source.new }
     ensures writes { K.faults sink.old ≤ K.faults sink.new }
 {

@@ -1,6 +1,6 @@
 ghost use Rattle.std.specs.Prelude.{◌≡◌, ◌≢◌, ◌<◌, ◌≤◌, ◌^◌, ℕ, length, Some};
 ghost use Rattle.ad_request.specs.declared.request.Request.TheVariants as requests;
-ghost use Rattle.ad_edition.specs.Sight.{Sight};
+ghost use Rattle.ad_edition.specs.Sight.{Sight, Footing};
 ghost use Rattle.ad_request.specs.Requests.{IsOffered};
 ghost use Rattle.ad_items.specs.Items.{Bounds, Item, IsItem, bounds_of};
 ghost use Rattle.ad_session.specs.Flows.{flow};
@@ -39,9 +39,10 @@ pub(crate) fn take_turn<S: Source, K: Sink, L: Look>(
     limits: Limits,
 ) -> Turn
     requires { limits.payload < 2 ^ 32 }
-    ensures turn { TurnIs (bounds_of limits) limits.depth result (flow (S.left source.old) (S.faults source.old) (K.written sink.old) (K.faults sink.old)) (flow (S.left source.new) (S.faults source.new) (K.written sink.new) (K.faults sink.new)) (L.sight look.old) (L.sight look.new) }
+    ensures turn { TurnIs (bounds_of limits) limits.depth (L.footing look.old) result (flow (S.left source.old) (S.faults source.old) (K.written sink.old) (K.faults sink.old)) (flow (S.left source.new) (S.faults source.new) (K.written sink.new) (K.faults sink.new)) (L.sight look.old) (L.sight look.new) }
     ensures footing { L.footing look.new ≡ L.footing look.old }
     ensures limits { L.limits look.new ≡ L.limits look.old }
+    ensures work { work.new.limits ≡ work.old.limits }
     ensures reads { S.faults source.old ≤ S.faults source.new }
     ensures writes { K.faults sink.old ≤ K.faults sink.new }
 {
@@ -71,7 +72,7 @@ fn reply<K: Sink, L: Look>(
     requires short { length payload.now < 2 ^ 32 }
     requires offered { IsOffered request }
     requires goes_on { request ≢ Request.Quit }
-    ensures replies { (bounds : Bounds) (i : Item) → IsItem bounds i → i.asked ≡ Some request → i.payload ≡ payload.now → Replies bounds limits.now.depth i result (K.written sink.old) (K.written sink.new) (K.faults sink.old) (K.faults sink.new) (L.sight look.old) (L.sight look.new) }
+    ensures replies { (bounds : Bounds) (i : Item) → IsItem bounds i → i.asked ≡ Some request → i.payload ≡ payload.now → Replies bounds limits.now.depth (L.footing look.old) i result (K.written sink.old) (K.written sink.new) (K.faults sink.old) (K.faults sink.new) (L.sight look.old) (L.sight look.new) }
     ensures footing { L.footing look.new ≡ L.footing look.old }
     ensures limits { L.limits look.new ≡ L.limits look.old }
     ensures writes { K.faults sink.old ≤ K.faults sink.new }
@@ -90,7 +91,7 @@ fn reply<K: Sink, L: Look>(
 // Reads the edit that the payload spells.
 fn begin_edit<K: Sink>(alloc: Global, payload: &[u8], sink: &mut K, limits: &Limits) -> Turn
     requires { length payload.now < 2 ^ 32 }
-    ensures replies { (bounds : Bounds) (i : Item) (n : ℕ) (seen : Sight) → IsItem bounds i → i.asked ≡ Some (requests.Edit n) → i.payload ≡ payload.now → Replies bounds limits.now.depth i result (K.written sink.old) (K.written sink.new) (K.faults sink.old) (K.faults sink.new) seen seen }
+    ensures replies { (bounds : Bounds) (footing : Footing) (i : Item) (n : ℕ) (seen : Sight) → IsItem bounds i → i.asked ≡ Some (requests.Edit n) → i.payload ≡ payload.now → Replies bounds limits.now.depth footing i result (K.written sink.old) (K.written sink.new) (K.faults sink.old) (K.faults sink.new) seen seen }
     ensures writes { K.faults sink.old ≤ K.faults sink.new }
 {
     match read_edit(alloc, payload, limits) {

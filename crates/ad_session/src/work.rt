@@ -5,7 +5,7 @@ use ad_items::Line;
 use std::alloc::Global;
 
 /// Counts the requests that a session has answered.
-#[derive(Clone, Copy, Debug, PartialEq, Eq, Hash)]
+#[derive(Clone, Copy)]
 pub struct Talk {
     pub(crate) chair: u32,
     pub(crate) answered: u32,
@@ -34,19 +34,29 @@ impl Talk {
     }
 }
 
-/// What a session needs while it works: the line that is read.
-#[derive(Debug, Drop)]
+/// What a session needs while it works: the line that is read, within the limits that it was made for.
+#[derive(Drop)]
 pub struct Work {
     pub(crate) line: Line,
+    pub(crate) limits: Limits,
 }
 
 impl Work {
     /// No line is read yet. All the memory is taken here.
-    pub fn new(alloc: Global, _limits: &Limits) -> Result<Work, Memory>
-        ensures { IfOk result (λ work. work.line ≡ []) }
+    pub fn new(alloc: Global, limits: &Limits) -> Result<Work, Memory>
+        ensures line { IfOk result (λ work. work.line ≡ []) }
+        ensures limits { IfOk result (λ work. work.limits ≡ limits.now) }
     {
         Ok(Work {
             line: Line::new(alloc)?,
+            limits: *limits,
         })
+    }
+
+    /// The limits that it was made for.
+    pub fn limits(&self) -> Limits
+        ensures { result ≡ self.now.limits }
+    {
+        self.limits
     }
 }

@@ -1,10 +1,10 @@
 -- Lists of first occurrences.
-use Rattle.std.proofs.Common.{◌≡◌, ℕ, Bool, true, false, cond, not, ◌&&◌, ◌||◌, IsTrue, IsFalse, List, [], ◌∷◌, ◌++◌, append-nil, append_assoc, refl, sym, ap, ◌∙◌}
-use Rattle.std.specs.List.{fold, filter, list_any}
-use Rattle.ad_tree.specs.Entities.{same_entity, has_entity}
-use Rattle.ad_tree.specs.declared.entities.Entity.{Entity}
-use Rattle.ad_theory.proofs.Members.{either, not_both, false_not, filter-filter, filter_all}
-use Rattle.ad_syntax_laws.proofs.EntityLemmas.{same_entity_is, same_entity_refl}
+use Rattle.std.proofs.Common.{◌≡◌, Bool, true, false, cond, not, ◌&&◌, ◌||◌, IsTrue, IsFalse, List, [], ◌∷◌, ◌++◌, append-nil, append_assoc, refl, sym, ap, ◌∙◌}
+use Rattle.std.specs.List.{fold, filter}
+use Rattle.ad_entity.specs.Entities.{same_entity}
+use Rattle.ad_entity.specs.declared.entities.Entity.{Entity}
+use Rattle.ad_theory.proofs.Members.{not_both, false_not, filter-filter, filter_all}
+use Rattle.ad_syntax_laws.proofs.EntityLemmas.{same_entity_is}
 use Rattle.ad_names.specs.Names.{is_member, with_entity}
 use Rattle.ad_names.specs.declared.names.Names.{Names}
 use Rattle.ad_names.proofs.MemberLemmas.{member-fold}

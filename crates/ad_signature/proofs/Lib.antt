@@ -1,3 +1,4 @@
 pub mod FirstLemmas
+pub mod SignatureLemmas
 pub mod SpareLemmas
 pub mod KindLemmas

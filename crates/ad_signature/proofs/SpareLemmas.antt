@@ -1,10 +1,10 @@
 -- Numbers that are given and released.
-use Rattle.std.proofs.Common.{◌≡◌, ◌≢◌, ℕ, suc, ◌+◌, ◌<◌, ◌≤◌, ◌==◌, Bool, true, false, cond, not, ◌&&◌, ◌||◌, ◌⊎◌, IsTrue, IsFalse, List, [], ◌∷◌, ◌++◌, length, Option, None, Some, refl, sym, ap, ◌∙◌, subst, inl, inr, eqb-true, eq-eqb, arith, length-append}
+use Rattle.std.proofs.Common.{◌≡◌, ◌≢◌, ℕ, ◌+◌, ◌<◌, ◌≤◌, ◌==◌, Bool, true, false, cond, not, ◌⊎◌, IsTrue, IsFalse, List, [], ◌∷◌, ◌++◌, length, Option, None, Some, refl, sym, ap, ◌∙◌, subst, inl, inr, eqb-true, eq-eqb, arith, length-append}
 use Rattle.ad_theory.specs.Numbers.{among}
 use Rattle.ad_theory.proofs.Members.{either, not_both, or_left, or_right, or_cases, and_intro, and_left, and_right, not_true, false_not}
-use Rattle.ad_tree.specs.Entities.{same_entity}
-use Rattle.ad_tree.specs.declared.entities.Entity.{Entity}
-use Rattle.ad_syntax_laws.proofs.EntityLemmas.{same_entity_is, same_entity_of, same_entity_refl}
+use Rattle.ad_entity.specs.Entities.{same_entity}
+use Rattle.ad_entity.specs.declared.entities.Entity.{Entity}
+use Rattle.ad_syntax_laws.proofs.EntityLemmas.{same_entity_is, same_entity_of}
 use Rattle.ad_signature.specs.Spare.{are_distinct, IsTaken}
 
 -- what stands in a list with one more number

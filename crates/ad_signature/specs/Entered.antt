@@ -1,7 +1,7 @@
 -- What entering and releasing an entity do to the entities that have numbers.
-use Rattle.std.specs.Prelude.{◌≡◌, ◌≢◌, ◌<◌, ◌+◌, ℕ, cond, Option, None, Some, is_some, if◌then◌else◌, MatchOption}
-use Rattle.ad_tree.specs.Entities.{same_entity}
-use Rattle.ad_tree.specs.declared.entities.Entity.{Entity}
+use Rattle.std.specs.Prelude.{◌≡◌, ◌≢◌, ◌<◌, ◌+◌, ℕ, cond, None, Some, is_some, if◌then◌else◌, MatchOption}
+use Rattle.ad_entity.specs.Entities.{same_entity}
+use Rattle.ad_entity.specs.declared.entities.Entity.{Entity}
 use Rattle.ad_signature.specs.declared.numbers.EntityNumbers.{EntityNumbers}
 use Rattle.ad_signature.specs.Numbering.{number_in, count}
 

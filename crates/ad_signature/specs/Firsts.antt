@@ -1,10 +1,10 @@
 -- The signature of an axiom as a list.
 use Rattle.std.specs.Prelude.{not, List, [], ◌∷◌}
 use Rattle.std.specs.List.{filter}
-use Rattle.ad_tree.specs.Entities.{same_entity}
-use Rattle.ad_tree.specs.Signature.{occurrences}
+use Rattle.ad_entity.specs.Entities.{same_entity}
+use Rattle.ad_locality.specs.Signature.{occurrences}
 use Rattle.ad_tree.specs.declared.axioms.Axiom.{Axiom}
-use Rattle.ad_tree.specs.declared.entities.Entity.{Entity}
+use Rattle.ad_entity.specs.declared.entities.Entity.{Entity}
 
 -- each entity of the list once, where it first stands
 abbrev pub firsts : List Entity → List Entity

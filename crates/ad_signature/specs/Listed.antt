@@ -1,6 +1,6 @@
 -- What a list of first occurrences has taken.
 use Rattle.std.specs.Prelude.{cond, [], ◌∷◌, ◌++◌}
-use Rattle.ad_tree.specs.declared.entities.Entity.{Entity}
+use Rattle.ad_entity.specs.declared.entities.Entity.{Entity}
 use Rattle.ad_names.specs.Names.{is_member, with_entity}
 use Rattle.ad_signature.specs.declared.listing.Listing.{Listing}
 

@@ -1,10 +1,10 @@
 -- Entities with their numbers, as one list of names with numbers for each kind.
-use Rattle.std.specs.Prelude.{ℕ, ◌+◌, List, Option, length}
+use Rattle.std.specs.Prelude.{ℕ, ◌+◌, List, [], Option, length}
 use Rattle.std.specs.Map.{lookup}
 use Rattle.ad_base.specs.Words.{same_text}
-use Rattle.ad_tree.specs.declared.entities.EntityKind.{EntityKind}
-use Rattle.ad_tree.specs.declared.entities.EntityKind.TheVariants as kinds
-use Rattle.ad_tree.specs.declared.entities.Entity.{Entity}
+use Rattle.ad_entity.specs.declared.entities.EntityKind.{EntityKind}
+use Rattle.ad_entity.specs.declared.entities.EntityKind.TheVariants as kinds
+use Rattle.ad_entity.specs.declared.entities.Entity.{Entity}
 use Rattle.ad_signature.specs.declared.numbers.EntityNumbers.{EntityNumbers}
 
 -- the number of a name of a kind
@@ -19,6 +19,10 @@ number_at m kinds.NamedIndividual name = lookup (same_text name) m.individuals
 -- the number of an entity
 abbrev pub number_in : EntityNumbers → Entity → Option ℕ
 number_in m e = number_at m e.kind e.name
+
+-- no entity has a number
+abbrev pub no_entities : EntityNumbers
+no_entities = record { classes = []; datatypes = []; object_properties = []; data_properties = []; annotation_properties = []; individuals = [] }
 
 -- how many entities have numbers
 abbrev pub count : EntityNumbers → ℕ

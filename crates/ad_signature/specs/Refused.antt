@@ -1,6 +1,6 @@
 -- When an entity is not entered.
-use Rattle.std.specs.Prelude.{◌≡◌, ℕ, Option, None}
-use Rattle.ad_tree.specs.declared.entities.Entity.{Entity}
+use Rattle.std.specs.Prelude.{◌≡◌, ℕ, None}
+use Rattle.ad_entity.specs.declared.entities.Entity.{Entity}
 use Rattle.ad_signature.specs.declared.numbers.EntityNumbers.{EntityNumbers}
 use Rattle.ad_signature.specs.declared.refused.SymbolRefused.{SymbolRefused}
 use Rattle.ad_signature.specs.declared.refused.SymbolRefused.TheVariants.{Full, Memory}

@@ -71,17 +71,17 @@ impl KindNumbers {
         self.map.swap_remove(name)
     }
 
-    // The same names with the same numbers.
-    pub(crate) fn copy(&self, alloc: Global, keys: RandomState) -> Result<KindNumbers, Memory>
-        ensures { IfOk result (λ copy. copy ≡ self.now) }
+    // Takes copies of the names of another map in, with their numbers. It has none before.
+    pub(crate) fn fill(&mut self, alloc: Global, from: &KindNumbers) -> Result<(), Memory>
+        requires { self.old ≡ [] }
+        ensures { OnOk result (self.new ≡ from.now) }
     {
-        let map = &self.map;
-        let mut copy = KindNumbers::new(alloc, keys);
+        let map = &from.map;
         for i in 0..map.len() {
             if let Some((name, number)) = map.get_index(i) {
-                copy.insert(alloc, name, *number)?;
+                self.insert(alloc, name, *number)?;
             }
         }
-        Ok(copy)
+        Ok(())
     }
 }

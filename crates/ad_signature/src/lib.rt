@@ -11,5 +11,3 @@ mod numbers;
 mod refused;
 mod spare;
 mod symbols;
-#[cfg(test)]
-mod tests;

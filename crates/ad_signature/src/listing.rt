@@ -1,4 +1,8 @@
 ghost use Rattle.std.specs.Prelude.{◌≡◌, IfOk};
+ghost use Rattle.std.specs.List.{IsDistinct};
+ghost use Rattle.ad_entity.specs.Entities.{has_entity, same_entity};
+ghost use Rattle.ad_entity.specs.declared.entities.Entity.{Entity};
+ghost use Rattle.ad_locality.specs.Signature.{in_signature};
 ghost use Rattle.ad_signature.specs.Firsts.{signature_of};
 ghost use Rattle.ad_signature.specs.Listed.{with_first};
 
@@ -33,7 +37,9 @@ impl Collect for Listing {
 /// The entities of a logical axiom, but for the built-in ones, each once, in the order in which they first occur in it;
 /// of a carried axiom none.
 pub fn signature(alloc: Global, noted: &Noted) -> Result<Seed, Memory>
-    ensures { IfOk result (λ seed. seed ≡ signature_of noted.now.axiom) }
+    ensures distinct { IfOk result (λ seed. IsDistinct same_entity seed) }
+    ensures members { IfOk result (λ seed. (e : Entity) → has_entity seed e ≡ in_signature noted.now.axiom e) }
+    ensures order { IfOk result (λ seed. seed ≡ signature_of noted.now.axiom) }
 {
     let mut listing = Listing {
         alloc,

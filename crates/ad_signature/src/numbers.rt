@@ -1,7 +1,7 @@
 ghost use Rattle.std.specs.Prelude.{◌≡◌, ◌+◌, cond, if◌then◌else◌, Some, None, is_some, IfOk, IfNone, OnOk, OnErr};
-ghost use Rattle.ad_tree.specs.Entities.{entity, same_entity};
-ghost use Rattle.ad_tree.specs.declared.entities.Entity.{Entity};
-ghost use Rattle.ad_signature.specs.Numbering.{number_in, count};
+ghost use Rattle.ad_entity.specs.Entities.{entity, same_entity};
+ghost use Rattle.ad_entity.specs.declared.entities.Entity.{Entity};
+ghost use Rattle.ad_signature.specs.Numbering.{number_in, count, no_entities};
 
 use crate::kind_numbers::KindNumbers;
 use ad_base::{Memory, Word};
@@ -23,6 +23,7 @@ pub(crate) struct EntityNumbers {
 impl EntityNumbers {
     // The map without entities. It takes no memory.
     pub(crate) fn new(alloc: Global, keys: RandomState) -> EntityNumbers
+        ensures all { result ≡ no_entities }
         ensures empty { (e : Entity) → number_in result e ≡ None }
         ensures count { count result ≡ 0 }
     {
@@ -93,17 +94,26 @@ impl EntityNumbers {
         }
     }
 
+    // Takes copies of another map's entities in, with their numbers. It has none before.
+    fn fill(&mut self, alloc: Global, from: &EntityNumbers) -> Result<(), Memory>
+        requires { self.old ≡ no_entities }
+        ensures { OnOk result (self.new ≡ from.now) }
+    {
+        self.classes.fill(alloc, &from.classes)?;
+        self.datatypes.fill(alloc, &from.datatypes)?;
+        self.object_properties.fill(alloc, &from.object_properties)?;
+        self.data_properties.fill(alloc, &from.data_properties)?;
+        self.annotation_properties
+            .fill(alloc, &from.annotation_properties)?;
+        self.individuals.fill(alloc, &from.individuals)
+    }
+
     // The same entities with the same numbers.
     pub(crate) fn copy(&self, alloc: Global, keys: RandomState) -> Result<EntityNumbers, Memory>
         ensures { IfOk result (λ copy. copy ≡ self.now) }
     {
-        Ok(EntityNumbers {
-            classes: self.classes.copy(alloc, keys)?,
-            datatypes: self.datatypes.copy(alloc, keys)?,
-            object_properties: self.object_properties.copy(alloc, keys)?,
-            data_properties: self.data_properties.copy(alloc, keys)?,
-            annotation_properties: self.annotation_properties.copy(alloc, keys)?,
-            individuals: self.individuals.copy(alloc, keys)?,
-        })
+        let mut copy = EntityNumbers::new(alloc, keys);
+        copy.fill(alloc, self)?;
+        Ok(copy)
     }
 }

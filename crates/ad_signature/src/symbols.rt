@@ -1,7 +1,7 @@
 ghost use Rattle.std.specs.Prelude.{◌≡◌, ◌<◌, ◌≤◌, ◌+◌, ℕ, cond, length, vec_capacity, Some, None, Err, IfOk, IfErr, IfSome, IfNone, OnOk, OnErr, IsTrue, IsFalse};
 ghost use Rattle.ad_theory.specs.Numbers.{among};
-ghost use Rattle.ad_tree.specs.Entities.{same_entity};
-ghost use Rattle.ad_tree.specs.declared.entities.Entity.{Entity};
+ghost use Rattle.ad_entity.specs.Entities.{same_entity};
+ghost use Rattle.ad_entity.specs.declared.entities.Entity.{Entity};
 ghost use Rattle.ad_signature.specs.Numbering.{number_in, count};
 ghost use Rattle.ad_signature.specs.Spare.{are_distinct};
 ghost use Rattle.ad_signature.specs.Entered.{IsGiven, IsEntered, IsReleased};

@@ -2,9 +2,9 @@
 use Rattle.std.proofs.Common.{◌≡◌, Bool, true, false, ◌&&◌, IsTrue, IsFalse, List, [], ◌∷◌, inl, inr, refl, ap, ◌∙◌}
 use Rattle.std.specs.List.{Contains, filter}
 use Rattle.ad_base.specs.declared.limits.Side.{Side}
-use Rattle.ad_tree.specs.Signature.{is_logical}
-use Rattle.ad_tree.specs.Locality.{local}
-use Rattle.ad_tree.specs.declared.entities.Entity.{Entity}
+use Rattle.ad_tree.specs.Logical.{is_logical}
+use Rattle.ad_locality.specs.Locality.{local}
+use Rattle.ad_entity.specs.declared.entities.Entity.{Entity}
 use Rattle.ad_tree.specs.declared.axioms.Axiom.{Axiom}
 use Rattle.ad_tree.specs.declared.axioms.Axiom.TheVariants as axioms
 use Rattle.ad_tree.specs.declared.axioms.Noted.{Noted}
@@ -13,7 +13,7 @@ use Rattle.ad_theory.specs.Listed.{IsListedModule}
 use Rattle.ad_theory.proofs.Members.{either, and_intro, and_left, and_right}
 use Rattle.ad_theory.proofs.ListedLemmas.{contains_filter, filter_contains}
 use Rattle.ad_syntax_laws.specs.OntologyLogic.{axiom_logic}
-use Rattle.ad_sweep.specs.OntologyModule.{is_logical_axiom}
+use Rattle.ad_syntax_laws.specs.OntologyModule.{is_logical_axiom}
 
 filter_filter : {A : Type 0} (p q : A → Bool) (xs : List A) → ((a : A) → IsTrue (p a) → IsTrue (q a)) → filter p xs ≡ filter p (filter q xs)
 filter_filter p q [] h = refl

@@ -3,8 +3,8 @@ use Rattle.std.proofs.Common.{◌≡◌, ℕ, ◌+◌, ◌<◌, ◌≤◌, ◌||
 use Rattle.std.proofs.lemmas.List.{get_or_default, get_or-set_other}
 use Rattle.std.proofs.lemmas.Grind.{get_or-set_at}
 use Rattle.ad_tree.specs.declared.axioms.Noted.{Noted}
-use Rattle.ad_tree.specs.declared.entities.Entity.{Entity}
-use Rattle.ad_sweep.specs.ModuleDocument.{goes_with}
+use Rattle.ad_entity.specs.declared.entities.Entity.{Entity}
+use Rattle.ad_syntax_laws.specs.ModuleDocument.{goes_with}
 
 -- the marks of the first n axioms have come in
 abbrev pub IsMarkedBelow : ℕ → (Entity → Bool) → List Noted → List Bool → List Bool → Type 0

@@ -2,13 +2,16 @@
 use Rattle.std.proofs.Common.{◌≡◌, ℕ, ◌+◌, ◌<◌, Bool, true, false, cond, List, [], ◌∷◌, ◌++◌, length, get_or, map, drop, replicate, refl, sym, ap, subst, ◌∙◌}
 use Rattle.std.proofs.lemmas.List.{drop_more, append_assoc, length-map}
 use Rattle.ad_base.specs.declared.limits.Side.{Side}
+use Rattle.ad_base.specs.declared.limits.Side.TheVariants as sides
+use Rattle.ad_base.specs.Kinds.{kind_of}
 use Rattle.ad_tree.specs.declared.axioms.Noted.{Noted}
-use Rattle.ad_tree.specs.declared.entities.Entity.{Entity}
+use Rattle.ad_entity.specs.declared.entities.Entity.{Entity}
 use Rattle.ad_tree.proofs.Equality.{noted_eq, noted_eq-is}
+use Rattle.ad_theory.specs.Listed.{IsListedModule}
 use Rattle.ad_theory.specs.Sweep.{IsSweeping, IsSettledBelow, chosen}
 use Rattle.ad_theory.proofs.SweepLemmas.{begins, ends}
-use Rattle.ad_syntax_laws.specs.OntologyLogic.{axiom_logic, seed_test}
-use Rattle.ad_sweep.specs.OntologyModule.{IsModuleOf}
+use Rattle.ad_syntax_laws.specs.OntologyLogic.{axiom_logic}
+use Rattle.ad_syntax_laws.specs.OntologyModule.{IsModuleOf, logical}
 use Rattle.ad_sweep.specs.Swept.{IsSwept}
 use Rattle.ad_sweep.proofs.CarriedLemmas.{logical_module}
 
@@ -29,21 +32,26 @@ chosen_more lent found marks owners k b x a in_marks in_owners mark at is =
     ∙ chosen_first b (drop (k + 1) marks) a (map lent (drop (k + 1) owners))))
 
 -- a sweep begins
-pub sweep_begins : {X : Type 0} (lent : X → Noted) (side : Side) (seed : List Entity) (owners : List X) (marks : List Bool) (seen : Entity → Bool)
-    → marks ≡ replicate (length owners) false → ((e : Entity) → seen e ≡ seed_test seed e) → IsSweeping (axiom_logic side) (seed_test seed) (map lent owners) marks seen
+pub sweep_begins : {X : Type 0} (lent : X → Noted) (side : Side) (seed : Entity → Bool) (owners : List X) (marks : List Bool) (seen : Entity → Bool)
+    → marks ≡ replicate (length owners) false → ((e : Entity) → seen e ≡ seed e) → IsSweeping (axiom_logic side) seed (map lent owners) marks seen
 sweep_begins lent side seed owners marks seen none names =
-    subst (λ l. IsSweeping (axiom_logic side) (seed_test seed) (map lent owners) l seen) (ap (λ n. replicate n false) (length-map owners lent) ∙ sym none)
-    (begins (axiom_logic side) (seed_test seed) (map lent owners) seen (λ e. ((λ h. sym (names e) ∙ h), (λ h. names e ∙ h))))
+    subst (λ l. IsSweeping (axiom_logic side) seed (map lent owners) l seen) (ap (λ n. replicate n false) (length-map owners lent) ∙ sym none)
+    (begins (axiom_logic side) seed (map lent owners) seen (λ e. ((λ h. sym (names e) ∙ h), (λ h. names e ∙ h))))
+
+-- the module of a side is that of the side's kind
+by_side : (side : Side) (seed : Entity → Bool) (O M : List Noted) → IsListedModule (axiom_logic side) seed (logical O) M → IsModuleOf (kind_of side) seed O M
+by_side sides.Bottom seed O M m = m
+by_side sides.Top seed O M m = m
 
 -- and ends with the module
-pub chosen_is_module : (side : Side) (seed : List Entity) (O : List Noted) (marks : List Bool) (seen : Entity → Bool)
-    → IsSwept side seed O marks seen → IsModuleOf side seed O (chosen marks O)
+pub chosen_is_module : (side : Side) (seed : Entity → Bool) (O : List Noted) (marks : List Bool) (seen : Entity → Bool)
+    → IsSwept side seed O marks seen → IsModuleOf (kind_of side) seed O (chosen marks O)
 chosen_is_module side seed O marks seen swept =
-    logical_module side (seed_test seed) O (chosen marks O) (ends (axiom_logic side) (seed_test seed) noted_eq noted_eq-is O marks seen swept.sweeping swept.settled)
+    by_side side seed O (chosen marks O) (logical_module side seed O (chosen marks O) (ends (axiom_logic side) seed noted_eq noted_eq-is O marks seen swept.sweeping swept.settled))
 
 -- what a sweep has when a round adds no more
-pub sweep_ends : {X : Type 0} (lent : X → Noted) (side : Side) (seed : List Entity) (owners : List X) (marks : List Bool) (seen : Entity → Bool)
-    → IsSweeping (axiom_logic side) (seed_test seed) (map lent owners) marks seen
+pub sweep_ends : {X : Type 0} (lent : X → Noted) (side : Side) (seed : Entity → Bool) (owners : List X) (marks : List Bool) (seen : Entity → Bool)
+    → IsSweeping (axiom_logic side) seed (map lent owners) marks seen
     → IsSettledBelow (axiom_logic side) (map lent owners) marks seen (length owners) → IsSwept side seed (map lent owners) marks seen
 sweep_ends lent side seed owners marks seen stands settled = record {
   sweeping = stands;

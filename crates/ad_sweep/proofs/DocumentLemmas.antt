@@ -2,15 +2,15 @@
 use Rattle.std.proofs.Common.{◌≡◌, ℕ, zero, suc, ◌<◌, Bool, true, false, ◌||◌, IsTrue, List, [], ◌∷◌, length, get_or, inl, inr, refl, sym, ap, ◌∙◌, le_of_suc-le-suc, not-suc-le-zero, arith}
 use Rattle.std.specs.List.{filter, list_any}
 use Rattle.ad_base.specs.declared.limits.Side.{Side}
+use Rattle.ad_base.specs.Kinds.{kind_of}
 use Rattle.ad_tree.specs.Same.{same_axiom}
-use Rattle.ad_tree.specs.Signature.{in_signature}
+use Rattle.ad_locality.specs.Signature.{in_signature}
 use Rattle.ad_tree.specs.declared.axioms.Noted.{Noted}
-use Rattle.ad_tree.specs.declared.entities.Entity.{Entity}
+use Rattle.ad_entity.specs.declared.entities.Entity.{Entity}
 use Rattle.ad_tree.proofs.Equality.{noted_eq-is}
 use Rattle.ad_theory.specs.Sweep.{chosen}
 use Rattle.ad_theory.proofs.Members.{Has, either, not_both, or_left, or_right, or_cases, has_of_contains, contains_of_has, any_of_has, has_of_any, any_same, same_any}
-use Rattle.ad_syntax_laws.specs.OntologyLogic.{seed_test}
-use Rattle.ad_sweep.specs.ModuleDocument.{entities_about, goes_with, stands_in, IsModuleDocumentOf}
+use Rattle.ad_syntax_laws.specs.ModuleDocument.{entities_about, goes_with, stands_in, IsModuleDocumentOf}
 use Rattle.ad_sweep.specs.Swept.{IsSwept, AreMarkedToo}
 use Rattle.ad_sweep.proofs.ChosenLemmas.{chosen_is_module}
 
@@ -44,7 +44,7 @@ chosen_by test (false ∷ marks) (x ∷ xs) e is =
     let rest : chosen marks xs ≡ filter test xs = chosen_by test marks xs (let z : suc (length marks) ≡ suc (length xs) = e in cc) (λ k d l. is (suc k) d (omega (arith, l))) in
     rw (here, rest) refl
 
-module _ (side : Side) (seed : List Entity) (O : List Noted) (marks : List Bool) (seen : Entity → Bool) (swept : IsSwept side seed O marks seen) where
+module _ (side : Side) (seed : Entity → Bool) (O : List Noted) (marks : List Bool) (seen : Entity → Bool) (swept : IsSwept side seed O marks seen) where
   -- an axiom is marked exactly where it is among those chosen
   mark_is : (k : ℕ) (d : Noted) → k < length O → get_or marks k true ≡ stands_in (chosen marks O) (get_or O k d)
   mark_is k d l = same_truth (get_or marks k true) (stands_in (chosen marks O) (get_or O k d))
@@ -59,18 +59,18 @@ module _ (side : Side) (seed : List Entity) (O : List Noted) (marks : List Bool)
   seen_is : (e : Entity) → seen e ≡ entities_about seed (chosen marks O) e
   seen_is e = same_truth (seen e) (entities_about seed (chosen marks O) e)
       (λ t. elim (swept.sweeping.gathered.only e t) [
-        | inl s ↦ or_left (seed_test seed e) (list_any (λ a. in_signature a.axiom e) (chosen marks O)) s
-        | inr r ↦ or_right (seed_test seed e) (list_any (λ a. in_signature a.axiom e) (chosen marks O))
+        | inl s ↦ or_left (seed e) (list_any (λ a. in_signature a.axiom e) (chosen marks O)) s
+        | inr r ↦ or_right (seed e) (list_any (λ a. in_signature a.axiom e) (chosen marks O))
             (any_of_has (λ a. in_signature a.axiom e) (chosen marks O) r.0 (has_of_contains (chosen marks O) r.0 r.1) r.2)
       ])
-      (λ t. elim (or_cases (seed_test seed e) (list_any (λ a. in_signature a.axiom e) (chosen marks O)) t) [
+      (λ t. elim (or_cases (seed e) (list_any (λ a. in_signature a.axiom e) (chosen marks O)) t) [
         | inl s ↦ swept.sweeping.gathered.has_seed e s
         | inr h ↦ let r = has_of_any (λ a. in_signature a.axiom e) (chosen marks O) h in
             swept.sweeping.gathered.has_symbols r.0 e (contains_of_has (chosen marks O) r.0 r.1) r.2
       ])
 
   -- with the axioms that go with what was seen, they are the document
-  pub document_ends : (marks' : List Bool) → length marks' ≡ length O → AreMarkedToo seen O marks marks' → IsModuleDocumentOf side seed O (chosen marks' O)
+  pub document_ends : (marks' : List Bool) → length marks' ≡ length O → AreMarkedToo seen O marks marks' → IsModuleDocumentOf (kind_of side) seed O (chosen marks' O)
   document_ends marks' long too = (
     chosen marks O,
     chosen_is_module side seed O marks seen swept,

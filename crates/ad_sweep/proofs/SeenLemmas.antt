@@ -4,11 +4,11 @@ use Rattle.std.specs.List.{fold, flat_map}
 use Rattle.std.proofs.Math.ListN.{get_or-map}
 use Rattle.std.proofs.lemmas.List.Folds.{list_any-append}
 use Rattle.std.proofs.lemmas.List.Concat.{flat_map-cons}
-use Rattle.ad_tree.specs.Entities.{same_entity, has_entity}
-use Rattle.ad_tree.specs.Builtin.{is_builtin}
-use Rattle.ad_tree.specs.Signature.{named}
+use Rattle.ad_entity.specs.Entities.{same_entity, has_entity}
+use Rattle.ad_entity.specs.Builtin.{is_builtin}
+use Rattle.ad_locality.specs.Signature.{named}
 use Rattle.ad_tree.specs.declared.axioms.Noted.{Noted}
-use Rattle.ad_tree.specs.declared.entities.Entity.{Entity}
+use Rattle.ad_entity.specs.declared.entities.Entity.{Entity}
 use Rattle.ad_theory.specs.Sweep.{HasAlso}
 use Rattle.ad_syntax_laws.specs.OntologyLogic.{seed_test}
 use Rattle.ad_syntax_laws.proofs.EntityLemmas.{same_entity_is}

@@ -1,4 +1,2 @@
-pub mod OntologyModule
 pub mod Marks
-pub mod ModuleDocument
 pub mod Swept

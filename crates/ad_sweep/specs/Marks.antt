@@ -2,8 +2,8 @@
 use Rattle.std.specs.Prelude.{ℕ, Bool, true, List, IsTrue, IsFalse, slice_index_or}
 use Rattle.ad_base.specs.declared.limits.Side.{Side}
 use Rattle.ad_tree.specs.declared.axioms.Noted.{Noted}
-use Rattle.ad_tree.specs.declared.entities.Entity.{Entity}
-use Rattle.ad_tree.specs.Locality.{local}
+use Rattle.ad_entity.specs.declared.entities.Entity.{Entity}
+use Rattle.ad_locality.specs.Locality.{local}
 use Rattle.ad_theory.specs.Sweep.{IsSweeping}
 use Rattle.ad_syntax_laws.specs.OntologyLogic.{axiom_logic}
 

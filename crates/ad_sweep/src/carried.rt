@@ -1,6 +1,6 @@
 ghost use Rattle.std.specs.Prelude.{◌≡◌, length, map, vec_len};
 ghost use Rattle.ad_names.specs.Names.{is_member};
-ghost use Rattle.ad_sweep.specs.ModuleDocument.{goes_with, is_iri_of_one};
+ghost use Rattle.ad_syntax_laws.specs.ModuleDocument.{goes_with, is_iri_of_one};
 ghost use Rattle.ad_sweep.specs.Swept.{AreMarkedToo};
 
 use ad_base::Word;

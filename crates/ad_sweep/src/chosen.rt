@@ -1,6 +1,6 @@
 ghost use Rattle.std.specs.Prelude.{◌≡◌, ◌∷◌, ◌++◌, [], if◌then◌else◌, length, map, vec_len, IfOk, OnOk};
 ghost use Rattle.ad_theory.specs.Sweep.{chosen};
-ghost use Rattle.ad_sweep.specs.OntologyModule.{AreAdditions, axioms_of};
+ghost use Rattle.ad_syntax_laws.specs.OntologyModule.{AreAdditions, axioms_of};
 
 use ad_base::Memory;
 use ad_tree::{Batch, Lent, Noted, Op, Sign};

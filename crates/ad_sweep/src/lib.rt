@@ -8,5 +8,3 @@ mod chosen;
 pub mod laws;
 mod rounds;
 mod sweeping;
-#[cfg(test)]
-mod tests;

@@ -1,5 +1,5 @@
 ghost use Rattle.std.specs.Prelude.{◌≡◌, ◌<◌, suc, length, map, vec_len, IsTrue, IsFalse, IfOk, OnOk};
-ghost use Rattle.ad_tree.specs.Locality.{local};
+ghost use Rattle.ad_locality.specs.Locality.{local};
 ghost use Rattle.ad_theory.specs.Sweep.{IsSettledBelow, unmarked};
 ghost use Rattle.ad_syntax_laws.specs.OntologyLogic.{axiom_logic};
 ghost use Rattle.ad_names.specs.Names.{is_member};

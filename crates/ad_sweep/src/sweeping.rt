@@ -1,9 +1,10 @@
 ghost use Rattle.std.specs.Prelude.{◌≡◌, false, length, map, vec_len, replicate, IfOk};
-ghost use Rattle.ad_tree.specs.declared.entities.Entity.{Entity};
+ghost use Rattle.ad_base.specs.Kinds.{kind_of};
+ghost use Rattle.ad_entity.specs.declared.entities.Entity.{Entity};
 ghost use Rattle.ad_syntax_laws.specs.OntologyLogic.{seed_test};
 ghost use Rattle.ad_names.specs.Names.{is_member};
-ghost use Rattle.ad_sweep.specs.ModuleDocument.{IsModuleDocumentOf};
-ghost use Rattle.ad_sweep.specs.OntologyModule.{AreAdditions, IsModuleOf, axioms_of};
+ghost use Rattle.ad_syntax_laws.specs.ModuleDocument.{IsModuleDocumentOf};
+ghost use Rattle.ad_syntax_laws.specs.OntologyModule.{AreAdditions, IsModuleOf, axioms_of};
 ghost use Rattle.ad_sweep.specs.Swept.{IsSwept};
 
 use crate::carried::mark_carried;
@@ -17,7 +18,7 @@ use std::alloc::Global;
 /// The module of the batch's axioms for the seed, on a side: as additions, in order. The carried axioms are left out.
 pub fn sweep(alloc: Global, side: Side, axioms: &Batch, seed: &Seed) -> Result<Batch, Memory>
     ensures additions { IfOk result AreAdditions }
-    ensures module { IfOk result (λ found. IsModuleOf side seed.now (axioms_of axioms.now) (axioms_of found)) }
+    ensures module { IfOk result (λ found. IsModuleOf (kind_of side) (seed_test seed.now) (axioms_of axioms.now) (axioms_of found)) }
 {
     module_of(alloc, side, axioms.ops(), seed)
 }
@@ -31,7 +32,7 @@ pub fn module_of<A: Lent>(
     seed: &Seed,
 ) -> Result<Batch, Memory>
     ensures additions { IfOk result AreAdditions }
-    ensures module { IfOk result (λ found. IsModuleOf side seed.now (map A.lent owners.now) (axioms_of found)) }
+    ensures module { IfOk result (λ found. IsModuleOf (kind_of side) (seed_test seed.now) (map A.lent owners.now) (axioms_of found)) }
 {
     let swept = sweep_to_end(alloc, side, owners, seed)?;
     marked(alloc, owners, &swept.marks)
@@ -46,7 +47,7 @@ pub fn document_of<A: Lent>(
     seed: &Seed,
 ) -> Result<Batch, Memory>
     ensures additions { IfOk result AreAdditions }
-    ensures document { IfOk result (λ found. IsModuleDocumentOf side seed.now (map A.lent owners.now) (axioms_of found)) }
+    ensures document { IfOk result (λ found. IsModuleDocumentOf (kind_of side) (seed_test seed.now) (map A.lent owners.now) (axioms_of found)) }
 {
     let mut swept = sweep_to_end(alloc, side, owners, seed)?;
     mark_carried(owners, &swept.names, &mut swept.marks);
@@ -68,7 +69,7 @@ fn sweep_to_end<A: Lent>(
     seed: &Seed,
 ) -> Result<Swept, Memory>
     ensures long { IfOk result (λ swept. vec_len swept.marks ≡ length owners.now) }
-    ensures swept { IfOk result (λ swept. IsSwept side seed.now (map A.lent owners.now) swept.marks.items (is_member swept.names)) }
+    ensures swept { IfOk result (λ swept. IsSwept side (seed_test seed.now) (map A.lent owners.now) swept.marks.items (is_member swept.names)) }
 {
     let mut names = names_of_seed(alloc, seed)?;
     let mut marks = no_marks(alloc, owners.len())?;

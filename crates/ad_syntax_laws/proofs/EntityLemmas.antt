@@ -3,10 +3,10 @@ use Rattle.std.proofs.Common.{◌≡◌, ℕ, zero, suc, List, [], ◌∷◌, �
 use Rattle.std.proofs.lemmas.Bool.{eqb-true, eq-eqb}
 use Rattle.std.proofs.lemmas.List.Folds.{list_any-append}
 use Rattle.ad_base.specs.Words.{same_text}
-use Rattle.ad_tree.specs.Entities.{entity, place_of, same_entity, has_entity}
-use Rattle.ad_tree.specs.declared.entities.Entity.{Entity}
-use Rattle.ad_tree.specs.declared.entities.EntityKind.{EntityKind}
-use Rattle.ad_tree.specs.declared.entities.EntityKind.TheVariants as kinds
+use Rattle.ad_entity.specs.Entities.{entity, place_of, same_entity, has_entity}
+use Rattle.ad_entity.specs.declared.entities.Entity.{Entity}
+use Rattle.ad_entity.specs.declared.entities.EntityKind.{EntityKind}
+use Rattle.ad_entity.specs.declared.entities.EntityKind.TheVariants as kinds
 use Rattle.ad_tree.proofs.Equality.{entity_eq, entity_eq-is}
 use Rattle.std.specs.Cmp.{both_ways}
 use Rattle.ad_theory.proofs.Members.{and_intro, and_left, and_right, or_left, or_right}

@@ -3,14 +3,14 @@ use Rattle.std.proofs.Common.{◌≡◌, ℕ, Bool, false, List, ◌++◌, map, 
 use Rattle.std.specs.List.{flat_map}
 use Rattle.std.proofs.lemmas.List.Folds.{flat_map-map}
 use Rattle.ad_base.specs.declared.limits.Side.{Side}
-use Rattle.ad_tree.specs.Signature as sig
-use Rattle.ad_tree.specs.Signature.{named, of_property, of_individual, of_literal, of_range, of_class, of_optional}
-use Rattle.ad_tree.specs.Builtin.{everything, neither}
-use Rattle.ad_tree.specs.Locality as table
-use Rattle.ad_tree.specs.Locality.{class_surely, range_surely, optional_range, name_surely, property_surely, intersection, union, complement, some_of, all_of, at_least, at_most, exactly, filler}
-use Rattle.ad_tree.specs.declared.surely.Surely.{Surely}
-use Rattle.ad_tree.specs.declared.entities.Entity.{Entity}
-use Rattle.ad_tree.specs.declared.entities.EntityKind.TheVariants as kinds
+use Rattle.ad_locality.specs.Signature as sig
+use Rattle.ad_locality.specs.Signature.{named, of_property, of_individual, of_literal, of_range, of_class, of_optional}
+use Rattle.ad_locality.specs.Columns.{everything}
+use Rattle.ad_locality.specs.Locality as table
+use Rattle.ad_locality.specs.Locality.{class_surely, range_surely, optional_range, name_surely, property_surely, intersection, union, complement, enumeration, some_of, all_of, at_least, at_most, exactly, filler}
+use Rattle.ad_locality.specs.declared.surely.Surely.{Surely}
+use Rattle.ad_entity.specs.declared.entities.Entity.{Entity}
+use Rattle.ad_entity.specs.declared.entities.EntityKind.TheVariants as kinds
 use Rattle.ad_tree.specs.declared.names.ObjProp.{ObjProp}
 use Rattle.ad_tree.specs.declared.names.Individual.{Individual}
 use Rattle.ad_tree.specs.declared.literals.Literal.{Literal}
@@ -47,10 +47,10 @@ range_surely-union side seen operands = range_surely-at side seen _ _ (r.rolls-O
 pub range_surely-complement : (side : Side) (seen : Entity → Bool) (operand : Range) → range_surely side seen (r.Not operand) ≡ complement (range_surely side seen operand)
 range_surely-complement side seen operand = range_surely-at side seen _ _ (r.rolls-Not operand)
 
-pub range_surely-one_of : (side : Side) (seen : Entity → Bool) (values : List Literal) → range_surely side seen (r.OneOf values) ≡ neither
+pub range_surely-one_of : (side : Side) (seen : Entity → Bool) (values : List Literal) → range_surely side seen (r.OneOf values) ≡ enumeration values
 range_surely-one_of side seen values = range_surely-at side seen _ _ (r.rolls-OneOf values)
 
-pub range_surely-restriction : (side : Side) (seen : Entity → Bool) (datatype : List ℕ) (facets : List Facet) → range_surely side seen (r.Restriction datatype facets) ≡ record { empty = (name_surely side seen kinds.Datatype datatype).empty; whole = false }
+pub range_surely-restriction : (side : Side) (seen : Entity → Bool) (datatype : List ℕ) (facets : List Facet) → range_surely side seen (r.Restriction datatype facets) ≡ record { empty = (name_surely side seen kinds.Datatype datatype).empty; whole = false; nonempty = false }
 range_surely-restriction side seen datatype facets = range_surely-at side seen _ _ (r.rolls-Restriction datatype facets)
 
 class_surely-at : (side : Side) (seen : Entity → Bool) (x : Class) (y : Class-F Class) → roll-Class y ≡ x → class_surely side seen x ≡ table.class_step side seen (map-Class Class Surely (class_surely side seen) y)
@@ -69,7 +69,7 @@ class_surely-union side seen operands = class_surely-at side seen _ _ (c.rolls-O
 pub class_surely-complement : (side : Side) (seen : Entity → Bool) (operand : Class) → class_surely side seen (c.Not operand) ≡ complement (class_surely side seen operand)
 class_surely-complement side seen operand = class_surely-at side seen _ _ (c.rolls-Not operand)
 
-pub class_surely-one_of : (side : Side) (seen : Entity → Bool) (individuals : List Individual) → class_surely side seen (c.OneOf individuals) ≡ neither
+pub class_surely-one_of : (side : Side) (seen : Entity → Bool) (individuals : List Individual) → class_surely side seen (c.OneOf individuals) ≡ enumeration individuals
 class_surely-one_of side seen individuals = class_surely-at side seen _ _ (c.rolls-OneOf individuals)
 
 pub class_surely-obj_some : (side : Side) (seen : Entity → Bool) (property : ObjProp) (filler : Class) → class_surely side seen (c.ObjSome property filler) ≡ some_of (property_surely side seen property) (class_surely side seen filler)

@@ -1,1 +1,3 @@
 pub mod OntologyLogic
+pub mod OntologyModule
+pub mod ModuleDocument

@@ -2,12 +2,12 @@
 -- whether it is local for the seen names.
 use Rattle.std.specs.Prelude.{Bool, not, ◌&&◌, List}
 use Rattle.ad_base.specs.declared.limits.Side.{Side}
-use Rattle.ad_tree.specs.Entities.{has_entity}
-use Rattle.ad_tree.specs.Builtin.{is_builtin}
-use Rattle.ad_tree.specs.Signature.{in_signature}
-use Rattle.ad_tree.specs.Locality.{local}
+use Rattle.ad_entity.specs.Entities.{has_entity}
+use Rattle.ad_entity.specs.Builtin.{is_builtin}
+use Rattle.ad_locality.specs.Signature.{in_signature}
+use Rattle.ad_locality.specs.Locality.{local}
 use Rattle.ad_tree.specs.declared.axioms.Noted.{Noted}
-use Rattle.ad_tree.specs.declared.entities.Entity.{Entity}
+use Rattle.ad_entity.specs.declared.entities.Entity.{Entity}
 use Rattle.ad_theory.specs.Module.{Logic}
 
 -- annotations have no part in it

@@ -1,21 +1,10 @@
-//! Tests of the readers and the writer on texts, each given with what it has to become.
+//! Tests of what the program doesn't show of texts: phrases from a token on, single axioms, the list of a seed, and
+//! prefixes. There is nothing here beside them.
 #![tactic(auto)]
 
 #[cfg(test)]
-mod again;
-#[cfg(test)]
-mod axioms;
-#[cfg(test)]
-mod built;
-#[cfg(test)]
-mod carried;
-#[cfg(test)]
-mod expressions;
-#[cfg(test)]
-mod left_out;
-#[cfg(test)]
-mod nested;
+mod phrases;
 #[cfg(test)]
 mod readers;
 #[cfg(test)]
-mod texts;
+mod rest;

@@ -8,4 +8,3 @@ pub mod Tally
 pub mod Numbers
 pub mod Rows
 pub mod Genuine
-pub mod Example

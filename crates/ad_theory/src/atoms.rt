@@ -4,7 +4,7 @@ ghost use Rattle.ad_theory.specs.Rows.{Numbered};
 use std::marker::Model;
 
 /// The atoms of a kind, numbered from 0, and how many axioms are in none.
-#[derive(Debug, Drop)]
+#[derive(Drop)]
 pub struct Atoms {
     atom_of: Vec<Option<u32>>,
     firsts: Vec<u32>,

@@ -9,6 +9,7 @@ ghost use Rattle.ad_base.specs.declared.limits.Side.{Side};
 ghost use Rattle.ad_theory.specs.Alternation.{IsLeftAfterRounds};
 ghost use Rattle.ad_theory.specs.Change.{IsChange, IsUntouched, IsStarUntouched};
 ghost use Rattle.ad_theory.specs.Module.{Logic, IsAntitone, IsModule, IsStar};
+ghost use Rattle.ad_theory.specs.Kinds.{IsListedOfKind};
 ghost use Rattle.ad_theory.specs.Listed.{IsListedModule, IsListedStar, IsLiteralModule, IsEqualityTest};
 ghost use Rattle.ad_theory.specs.Numbers.{logic_of, IsNumberedModule};
 ghost use Rattle.ad_theory.specs.Genuine.{IsGenuine, IsNoTautology};
@@ -103,11 +104,27 @@ pub fn numbered<U: Universe>()
         (i : ℕ) → IsTrue (M i) → IsTrue (N i) }
 {}
 
-/// A genuine module contains the genuine module of each of its axioms. So two axioms that are in the genuine modules of
-/// each other have the same one.
-pub fn nested<U: Universe>()
-    ensures { (u : U) (kind : Kind) (i k : ℕ) (M N : ℕ → Bool) →
-        IsGenuine kind (U.symbols_of u) (U.is_local u) (U.is_live u) i M → IsTrue (M k) →
+/// A module, on a side or star, has for any seed the module for the signature of each of its axioms. The signatures on
+/// both sides are the same.
+pub fn nested<A, E>()
+    ensures side { (L : Logic A E) (O M N : A → Bool) (seed S R : E → Bool) (a : A) →
+        IsModule L seed (λ b. IsTrue (O b)) M S → IsTrue (M a) →
+        IsModule L (L.sig a) (λ b. IsTrue (O b)) N R → (b : A) → IsTrue (N b) → IsTrue (M b) }
+    ensures star { (B T : Logic A E) (O M N : A → Bool) (seed : E → Bool) (a : A) →
+        ((b : A) (e : E) → B.sig b e ≡ T.sig b e) →
+        IsStar B T seed (λ b. IsTrue (O b)) M → IsTrue (M a) →
+        IsStar B T (B.sig a) (λ b. IsTrue (O b)) N → (b : A) → IsTrue (N b) → IsTrue (M b) }
+    ensures listed { (kind : Kind) (B T : Logic A E) (O M N : List A) (seed : E → Bool) (a : A) →
+        ((b : A) (e : E) → B.sig b e ≡ T.sig b e) →
+        IsListedOfKind kind B T seed O M → Contains M a →
+        IsListedOfKind kind B T (B.sig a) O N → (b : A) → Contains N b → Contains M b }
+{}
+
+/// Over any universe a module, of any kind and for any seed, has the genuine module of each of its axioms. So two axioms
+/// that are in the genuine modules of each other have the same one.
+pub fn genuine_nested<U: Universe>()
+    ensures { (u : U) (kind : Kind) (seed : ℕ → Bool) (k : ℕ) (M N S : ℕ → Bool) →
+        IsNumberedModule kind (U.symbols_of u) (U.is_local u) seed (λ i. IsTrue (U.is_live u i)) M S → IsTrue (M k) →
         IsGenuine kind (U.symbols_of u) (U.is_local u) (U.is_live u) k N →
         (j : ℕ) → IsTrue (N j) → IsTrue (M j) }
 {}

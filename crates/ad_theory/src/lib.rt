@@ -19,6 +19,4 @@ mod row;
 mod rows;
 mod tally;
 mod task;
-#[cfg(test)]
-mod tests;
 mod universe;

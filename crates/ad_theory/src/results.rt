@@ -8,7 +8,7 @@ use std::marker::Model;
 use std::sync::Arc;
 
 /// The rows that were found for some tasks, in the tasks' order.
-#[derive(Debug, Drop)]
+#[derive(Drop)]
 pub struct Results {
     rows: Vec<Arc<Row>>,
 }

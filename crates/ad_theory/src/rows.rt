@@ -11,7 +11,7 @@ use std::sync::Arc;
 
 /// For each kind a row of each slot that has one: the genuine module of the slot's axiom, where its axiom is alive.
 /// Slots can share a row.
-#[derive(Debug, Drop)]
+#[derive(Drop)]
 pub struct Rows {
     bottom: Vec<Option<Arc<Row>>>,
     top: Vec<Option<Arc<Row>>>,

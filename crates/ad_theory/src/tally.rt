@@ -4,7 +4,7 @@ ghost use Rattle.ad_theory.specs.Tally.{IsRaisedBy};
 use std::marker::Model;
 
 /// How many tests of locality and how many extractions were made. Counts never fall, and stay at their type's end.
-#[derive(Debug, Drop)]
+#[derive(Drop)]
 pub struct Tally {
     tests: u64,
     runs: u64,

@@ -3,8 +3,8 @@
 
 ghost use Rattle.std.specs.Prelude.{◌≡◌, IsTrue};
 ghost use Rattle.ad_base.specs.declared.limits.Side.TheVariants as sides;
-ghost use Rattle.ad_tree.specs.Signature.{is_logical};
-ghost use Rattle.ad_tree.specs.Locality.{local};
+ghost use Rattle.ad_tree.specs.Logical.{is_logical};
+ghost use Rattle.ad_locality.specs.Locality.{local};
 
 use ad_base::Side;
 use ad_local::is_local;

@@ -11,14 +11,12 @@ use denote.Struct.Values.{Values}
 use denote.Enum.Declared.{Choice, declared}
 use denote.Enum.Compared.{Each, by}
 use denote.Enum.Bare.{same_true}
-use Rattle.ad_tree.specs.declared.entities.EntityKind.{EntityKind}
-use Rattle.ad_tree.specs.contracts.entities.EntityKind as kind_parts
-use Rattle.ad_tree.specs.contracts.entities.EntityKindPartialEq.TheImpl as kind_impl
-use Rattle.ad_tree.specs.contracts.entities.EntityKindEq.TheImpl.Laws as kind_laws
-use Rattle.ad_tree.specs.declared.entities.Entity.{Entity}
-use Rattle.ad_tree.specs.contracts.entities.Entity as entity_parts
-use Rattle.ad_tree.specs.contracts.entities.EntityPartialEq.TheImpl as entity_impl
-use Rattle.ad_tree.specs.contracts.entities.EntityEq.TheImpl.Laws as entity_laws
+use Rattle.ad_entity.specs.declared.entities.EntityKind.{EntityKind}
+use Rattle.ad_entity.specs.contracts.entities.EntityKind as kind_parts
+use Rattle.ad_entity.specs.contracts.entities.EntityKindPartialEq.TheImpl as kind_impl
+use Rattle.ad_entity.specs.declared.entities.Entity.{Entity}
+use Rattle.ad_entity.specs.contracts.entities.EntityPartialEq.TheImpl as entity_impl
+use Rattle.ad_entity.specs.contracts.entities.EntityEq.TheImpl.Laws as entity_laws
 use Rattle.ad_tree.specs.declared.names.ObjProp.{ObjProp}
 use Rattle.ad_tree.specs.contracts.names.ObjProp as property_parts
 use Rattle.ad_tree.specs.contracts.names.ObjPropPartialEq.TheImpl as property_impl
@@ -32,19 +30,15 @@ use Rattle.ad_tree.specs.contracts.literals.Literal as literal_parts
 use Rattle.ad_tree.specs.contracts.literals.LiteralPartialEq.TheImpl as literal_impl
 use Rattle.ad_tree.specs.contracts.literals.LiteralEq.TheImpl.Laws as literal_laws
 use Rattle.ad_tree.specs.declared.literals.Facet.{Facet}
-use Rattle.ad_tree.specs.contracts.literals.Facet as facet_parts
 use Rattle.ad_tree.specs.contracts.literals.FacetPartialEq.TheImpl as facet_impl
 use Rattle.ad_tree.specs.contracts.literals.FacetEq.TheImpl.Laws as facet_laws
 use Rattle.ad_tree.specs.declared.notes.Subject.{Subject}
 use Rattle.ad_tree.specs.contracts.notes.Subject as subject_parts
 use Rattle.ad_tree.specs.contracts.notes.SubjectPartialEq.TheImpl as subject_impl
-use Rattle.ad_tree.specs.contracts.notes.SubjectEq.TheImpl.Laws as subject_laws
 use Rattle.ad_tree.specs.declared.notes.Value.{Value}
 use Rattle.ad_tree.specs.contracts.notes.Value as value_parts
 use Rattle.ad_tree.specs.contracts.notes.ValuePartialEq.TheImpl as value_impl
-use Rattle.ad_tree.specs.contracts.notes.ValueEq.TheImpl.Laws as value_laws
 use Rattle.ad_tree.specs.declared.notes.Annotation.{Annotation}
-use Rattle.ad_tree.specs.contracts.notes.Annotation as annotation_parts
 use Rattle.ad_tree.specs.contracts.notes.AnnotationPartialEq.TheImpl as annotation_impl
 use Rattle.ad_tree.specs.contracts.notes.AnnotationEq.TheImpl.Laws as annotation_laws
 use Rattle.ad_tree.specs.contracts.notes.AnnotationPartialEq.TheImpl.Laws as annotation_step
@@ -63,7 +57,6 @@ use Rattle.ad_tree.specs.contracts.axioms.Axiom as axiom_parts
 use Rattle.ad_tree.specs.contracts.axioms.AxiomPartialEq.TheImpl as axiom_impl
 use Rattle.ad_tree.specs.contracts.axioms.AxiomEq.TheImpl.Laws as axiom_laws
 use Rattle.ad_tree.specs.declared.axioms.Noted.{Noted}
-use Rattle.ad_tree.specs.contracts.axioms.Noted as noted_parts
 use Rattle.ad_tree.specs.contracts.axioms.NotedPartialEq.TheImpl as noted_impl
 use Rattle.ad_tree.specs.contracts.axioms.NotedEq.TheImpl.Laws as noted_laws
 use Rattle.ad_tree.specs.declared.names.ObjProp.TheVariants as props

@@ -1,2 +1,3 @@
 pub mod Induction
 pub mod Equality
+pub mod Crossing

@@ -1,6 +1,3 @@
 pub mod formers
-pub mod Entities
-pub mod Builtin
-pub mod Signature
-pub mod Locality
+pub mod Logical
 pub mod Same

@@ -1,7 +1,7 @@
 ghost use Rattle.std.specs.Prelude.{◌≡◌, ◌↔◌, IfOk, IsTrue};
 
 use crate::classes::{Class, Classes, copy_classes};
-use crate::entities::Entity;
+use crate::copies::{all_three, both};
 use crate::literals::Literal;
 use crate::names::{
     Individual, Individuals, ObjProp, ObjProps, Words, copy_individuals, copy_properties,
@@ -10,11 +10,12 @@ use crate::names::{
 use crate::notes::{Annotations, Subject, Value, copy_annotations};
 use crate::ranges::Range;
 use ad_base::{Memory, Word};
+use ad_entity::Entity;
 use std::alloc::Global;
 
 /// An axiom (sections 9 and 10 of the Structural Specification), named by its keyword, with its
 /// arguments in the order of the functional-style syntax.
-#[derive(Debug, Drop, PartialEq, Eq, PartialOrd, Ord, Hash)]
+#[derive(Drop, PartialEq, Eq, PartialOrd, Ord, Hash)]
 pub enum Axiom {
     SubClassOf(Class, Class),
     EquivalentClasses(Classes),
@@ -57,172 +58,63 @@ pub enum Axiom {
 }
 
 impl Axiom {
-    /// Another axiom, the same.
+    /// Another axiom, the same: one form of axiom a line.
+    #[rattlefmt::skip]
     pub fn copy(&self, alloc: Global) -> Result<Axiom, Memory>
         ensures { IfOk result (λ copy. copy ≡ self.now) }
     {
         match self {
-            Axiom::SubClassOf(lower, upper) => Ok(Axiom::SubClassOf(
-                lower.copy(alloc)?,
-                upper.copy(alloc)?,
-            )),
-            Axiom::EquivalentClasses(classes) => Ok(Axiom::EquivalentClasses(copy_classes(
-                alloc, classes,
-            )?)),
-            Axiom::DisjointClasses(classes) => Ok(Axiom::DisjointClasses(copy_classes(
-                alloc, classes,
-            )?)),
-            Axiom::DisjointUnion(class, parts) => Ok(Axiom::DisjointUnion(
-                class.copy(alloc)?,
-                copy_classes(alloc, parts)?,
-            )),
-            Axiom::SubObjectPropertyOf(lower, upper) => Ok(Axiom::SubObjectPropertyOf(
-                lower.copy(alloc)?,
-                upper.copy(alloc)?,
-            )),
-            Axiom::SubObjectPropertyChainOf(chain, upper) => Ok(Axiom::SubObjectPropertyChainOf(
-                copy_properties(alloc, chain)?,
-                upper.copy(alloc)?,
-            )),
-            Axiom::EquivalentObjectProperties(properties) => Ok(Axiom::EquivalentObjectProperties(
-                copy_properties(alloc, properties)?,
-            )),
-            Axiom::DisjointObjectProperties(properties) => Ok(Axiom::DisjointObjectProperties(
-                copy_properties(alloc, properties)?,
-            )),
-            Axiom::InverseObjectProperties(first, second) => Ok(Axiom::InverseObjectProperties(
-                first.copy(alloc)?,
-                second.copy(alloc)?,
-            )),
-            Axiom::ObjectPropertyDomain(property, class) => Ok(Axiom::ObjectPropertyDomain(
-                property.copy(alloc)?,
-                class.copy(alloc)?,
-            )),
-            Axiom::ObjectPropertyRange(property, class) => Ok(Axiom::ObjectPropertyRange(
-                property.copy(alloc)?,
-                class.copy(alloc)?,
-            )),
-            Axiom::FunctionalObjectProperty(property) => Ok(Axiom::FunctionalObjectProperty(
-                property.copy(alloc)?,
-            )),
-            Axiom::InverseFunctionalObjectProperty(property) => Ok(
-                Axiom::InverseFunctionalObjectProperty(property.copy(alloc)?),
-            ),
-            Axiom::ReflexiveObjectProperty(property) => Ok(Axiom::ReflexiveObjectProperty(
-                property.copy(alloc)?,
-            )),
-            Axiom::IrreflexiveObjectProperty(property) => Ok(Axiom::IrreflexiveObjectProperty(
-                property.copy(alloc)?,
-            )),
-            Axiom::SymmetricObjectProperty(property) => Ok(Axiom::SymmetricObjectProperty(
-                property.copy(alloc)?,
-            )),
-            Axiom::AsymmetricObjectProperty(property) => Ok(Axiom::AsymmetricObjectProperty(
-                property.copy(alloc)?,
-            )),
-            Axiom::TransitiveObjectProperty(property) => Ok(Axiom::TransitiveObjectProperty(
-                property.copy(alloc)?,
-            )),
-            Axiom::SubDataPropertyOf(lower, upper) => Ok(Axiom::SubDataPropertyOf(
-                lower.copy(alloc)?,
-                upper.copy(alloc)?,
-            )),
-            Axiom::EquivalentDataProperties(properties) => Ok(Axiom::EquivalentDataProperties(
-                copy_words(alloc, properties)?,
-            )),
-            Axiom::DisjointDataProperties(properties) => Ok(Axiom::DisjointDataProperties(
-                copy_words(alloc, properties)?,
-            )),
-            Axiom::DataPropertyDomain(property, class) => Ok(Axiom::DataPropertyDomain(
-                property.copy(alloc)?,
-                class.copy(alloc)?,
-            )),
-            Axiom::DataPropertyRange(property, range) => Ok(Axiom::DataPropertyRange(
-                property.copy(alloc)?,
-                range.copy(alloc)?,
-            )),
-            Axiom::FunctionalDataProperty(property) => Ok(Axiom::FunctionalDataProperty(
-                property.copy(alloc)?,
-            )),
-            Axiom::DatatypeDefinition(datatype, range) => Ok(Axiom::DatatypeDefinition(
-                datatype.copy(alloc)?,
-                range.copy(alloc)?,
-            )),
-            Axiom::HasKey(class, objects, values) => Ok(Axiom::HasKey(
-                class.copy(alloc)?,
-                copy_properties(alloc, objects)?,
-                copy_words(alloc, values)?,
-            )),
-            Axiom::SameIndividual(individuals) => Ok(Axiom::SameIndividual(copy_individuals(
-                alloc,
-                individuals,
-            )?)),
-            Axiom::DifferentIndividuals(individuals) => Ok(Axiom::DifferentIndividuals(
-                copy_individuals(alloc, individuals)?,
-            )),
-            Axiom::ClassAssertion(class, individual) => Ok(Axiom::ClassAssertion(
-                class.copy(alloc)?,
-                individual.copy(alloc)?,
-            )),
-            Axiom::ObjectPropertyAssertion(property, source, target) => Ok(
-                Axiom::ObjectPropertyAssertion(
-                    property.copy(alloc)?,
-                    source.copy(alloc)?,
-                    target.copy(alloc)?,
-                ),
-            ),
-            Axiom::NegativeObjectPropertyAssertion(property, source, target) => Ok(
-                Axiom::NegativeObjectPropertyAssertion(
-                    property.copy(alloc)?,
-                    source.copy(alloc)?,
-                    target.copy(alloc)?,
-                ),
-            ),
-            Axiom::DataPropertyAssertion(property, source, target) => Ok(
-                Axiom::DataPropertyAssertion(
-                    property.copy(alloc)?,
-                    source.copy(alloc)?,
-                    target.copy(alloc)?,
-                ),
-            ),
-            Axiom::NegativeDataPropertyAssertion(property, source, target) => Ok(
-                Axiom::NegativeDataPropertyAssertion(
-                    property.copy(alloc)?,
-                    source.copy(alloc)?,
-                    target.copy(alloc)?,
-                ),
-            ),
-            Axiom::Declaration(declared) => Ok(Axiom::Declaration(declared.copy(alloc)?)),
-            Axiom::AnnotationAssertion(property, subject, value) => Ok(Axiom::AnnotationAssertion(
-                property.copy(alloc)?,
-                subject.copy(alloc)?,
-                value.copy(alloc)?,
-            )),
-            Axiom::SubAnnotationPropertyOf(lower, upper) => Ok(Axiom::SubAnnotationPropertyOf(
-                lower.copy(alloc)?,
-                upper.copy(alloc)?,
-            )),
-            Axiom::AnnotationPropertyDomain(property, domain) => Ok(Axiom::AnnotationPropertyDomain(
-                property.copy(alloc)?,
-                domain.copy(alloc)?,
-            )),
-            Axiom::AnnotationPropertyRange(property, range) => Ok(Axiom::AnnotationPropertyRange(
-                property.copy(alloc)?,
-                range.copy(alloc)?,
-            )),
+            Axiom::SubClassOf(lower, upper) => both(lower.copy(alloc), upper.copy(alloc)).map(|(lower, upper)| Axiom::SubClassOf(lower, upper)),
+            Axiom::EquivalentClasses(classes) => copy_classes(alloc, classes).map(|classes| Axiom::EquivalentClasses(classes)),
+            Axiom::DisjointClasses(classes) => copy_classes(alloc, classes).map(|classes| Axiom::DisjointClasses(classes)),
+            Axiom::DisjointUnion(class, parts) => both(class.copy(alloc), copy_classes(alloc, parts)).map(|(class, parts)| Axiom::DisjointUnion(class, parts)),
+            Axiom::SubObjectPropertyOf(lower, upper) => both(lower.copy(alloc), upper.copy(alloc)).map(|(lower, upper)| Axiom::SubObjectPropertyOf(lower, upper)),
+            Axiom::SubObjectPropertyChainOf(chain, upper) => both(copy_properties(alloc, chain), upper.copy(alloc)).map(|(chain, upper)| Axiom::SubObjectPropertyChainOf(chain, upper)),
+            Axiom::EquivalentObjectProperties(properties) => copy_properties(alloc, properties).map(|properties| Axiom::EquivalentObjectProperties(properties)),
+            Axiom::DisjointObjectProperties(properties) => copy_properties(alloc, properties).map(|properties| Axiom::DisjointObjectProperties(properties)),
+            Axiom::InverseObjectProperties(first, second) => both(first.copy(alloc), second.copy(alloc)).map(|(first, second)| Axiom::InverseObjectProperties(first, second)),
+            Axiom::ObjectPropertyDomain(property, class) => both(property.copy(alloc), class.copy(alloc)).map(|(property, class)| Axiom::ObjectPropertyDomain(property, class)),
+            Axiom::ObjectPropertyRange(property, class) => both(property.copy(alloc), class.copy(alloc)).map(|(property, class)| Axiom::ObjectPropertyRange(property, class)),
+            Axiom::FunctionalObjectProperty(property) => property.copy(alloc).map(|property| Axiom::FunctionalObjectProperty(property)),
+            Axiom::InverseFunctionalObjectProperty(property) => property.copy(alloc).map(|property| Axiom::InverseFunctionalObjectProperty(property)),
+            Axiom::ReflexiveObjectProperty(property) => property.copy(alloc).map(|property| Axiom::ReflexiveObjectProperty(property)),
+            Axiom::IrreflexiveObjectProperty(property) => property.copy(alloc).map(|property| Axiom::IrreflexiveObjectProperty(property)),
+            Axiom::SymmetricObjectProperty(property) => property.copy(alloc).map(|property| Axiom::SymmetricObjectProperty(property)),
+            Axiom::AsymmetricObjectProperty(property) => property.copy(alloc).map(|property| Axiom::AsymmetricObjectProperty(property)),
+            Axiom::TransitiveObjectProperty(property) => property.copy(alloc).map(|property| Axiom::TransitiveObjectProperty(property)),
+            Axiom::SubDataPropertyOf(lower, upper) => both(lower.copy(alloc), upper.copy(alloc)).map(|(lower, upper)| Axiom::SubDataPropertyOf(lower, upper)),
+            Axiom::EquivalentDataProperties(properties) => copy_words(alloc, properties).map(|properties| Axiom::EquivalentDataProperties(properties)),
+            Axiom::DisjointDataProperties(properties) => copy_words(alloc, properties).map(|properties| Axiom::DisjointDataProperties(properties)),
+            Axiom::DataPropertyDomain(property, class) => both(property.copy(alloc), class.copy(alloc)).map(|(property, class)| Axiom::DataPropertyDomain(property, class)),
+            Axiom::DataPropertyRange(property, range) => both(property.copy(alloc), range.copy(alloc)).map(|(property, range)| Axiom::DataPropertyRange(property, range)),
+            Axiom::FunctionalDataProperty(property) => property.copy(alloc).map(|property| Axiom::FunctionalDataProperty(property)),
+            Axiom::DatatypeDefinition(datatype, range) => both(datatype.copy(alloc), range.copy(alloc)).map(|(datatype, range)| Axiom::DatatypeDefinition(datatype, range)),
+            Axiom::HasKey(class, objects, values) => all_three(class.copy(alloc), copy_properties(alloc, objects), copy_words(alloc, values)).map(|(class, objects, values)| Axiom::HasKey(class, objects, values)),
+            Axiom::SameIndividual(individuals) => copy_individuals(alloc, individuals).map(|individuals| Axiom::SameIndividual(individuals)),
+            Axiom::DifferentIndividuals(individuals) => copy_individuals(alloc, individuals).map(|individuals| Axiom::DifferentIndividuals(individuals)),
+            Axiom::ClassAssertion(class, individual) => both(class.copy(alloc), individual.copy(alloc)).map(|(class, individual)| Axiom::ClassAssertion(class, individual)),
+            Axiom::ObjectPropertyAssertion(property, source, target) => all_three(property.copy(alloc), source.copy(alloc), target.copy(alloc)).map(|(property, source, target)| Axiom::ObjectPropertyAssertion(property, source, target)),
+            Axiom::NegativeObjectPropertyAssertion(property, source, target) => all_three(property.copy(alloc), source.copy(alloc), target.copy(alloc)).map(|(property, source, target)| Axiom::NegativeObjectPropertyAssertion(property, source, target)),
+            Axiom::DataPropertyAssertion(property, source, target) => all_three(property.copy(alloc), source.copy(alloc), target.copy(alloc)).map(|(property, source, target)| Axiom::DataPropertyAssertion(property, source, target)),
+            Axiom::NegativeDataPropertyAssertion(property, source, target) => all_three(property.copy(alloc), source.copy(alloc), target.copy(alloc)).map(|(property, source, target)| Axiom::NegativeDataPropertyAssertion(property, source, target)),
+            Axiom::Declaration(declared) => declared.copy(alloc).map(|declared| Axiom::Declaration(declared)),
+            Axiom::AnnotationAssertion(property, subject, value) => all_three(property.copy(alloc), subject.copy(alloc), value.copy(alloc)).map(|(property, subject, value)| Axiom::AnnotationAssertion(property, subject, value)),
+            Axiom::SubAnnotationPropertyOf(lower, upper) => both(lower.copy(alloc), upper.copy(alloc)).map(|(lower, upper)| Axiom::SubAnnotationPropertyOf(lower, upper)),
+            Axiom::AnnotationPropertyDomain(property, domain) => both(property.copy(alloc), domain.copy(alloc)).map(|(property, domain)| Axiom::AnnotationPropertyDomain(property, domain)),
+            Axiom::AnnotationPropertyRange(property, range) => both(property.copy(alloc), range.copy(alloc)).map(|(property, range)| Axiom::AnnotationPropertyRange(property, range)),
         }
     }
 }
 
 /// An axiom with its annotations. Two are the same only where their annotations are.
-#[derive(Debug, Drop, PartialEq, Eq, PartialOrd, Ord, Hash)]
+#[derive(Drop, PartialEq, Eq, PartialOrd, Ord, Hash)]
 pub struct Noted {
     pub notes: Annotations,
     pub axiom: Axiom,
 }
 
 impl Noted {
-    ghost use Rattle.ad_tree.specs.Signature.{is_logical};
+    ghost use Rattle.ad_tree.specs.Logical.{is_logical};
 
     /// Whether the axiom is a logical one. Declarations and those on annotations are carried along.
     pub fn is_logical(&self) -> bool

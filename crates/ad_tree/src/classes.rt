@@ -1,5 +1,6 @@
 ghost use Rattle.std.specs.Prelude.{◌≡◌, IfOk};
 
+use crate::copies::both;
 use crate::literals::Literal;
 use crate::many::Many;
 use crate::names::{Individual, Individuals, ObjProp, copy_individuals};
@@ -10,7 +11,7 @@ use std::alloc::Global;
 
 /// A class expression (section 8 of the Structural Specification). Classes and data properties are
 /// named by their IRIs.
-#[derive(Debug, Drop, PartialEq, Eq, PartialOrd, Ord, Hash)]
+#[derive(Drop, PartialEq, Eq, PartialOrd, Ord, Hash)]
 pub enum Class {
     Named(Word),
     And(Classes),
@@ -36,72 +37,31 @@ pub enum Class {
 pub type Classes = Many<Class>;
 
 impl Class {
-    /// Another class expression, the same.
+    /// Another class expression, the same: one form a line.
     #[cycle(class_copy)]
+    #[rattlefmt::skip]
     pub fn copy(&self, alloc: Global) -> Result<Class, Memory>
         ensures { IfOk result (λ copy. copy ≡ self.now) }
     {
         match self {
-            Class::Named(class) => Ok(Class::Named(class.copy(alloc)?)),
-            Class::And(operands) => Ok(Class::And(copy_classes(alloc, operands)?)),
-            Class::Or(operands) => Ok(Class::Or(copy_classes(alloc, operands)?)),
-            Class::Not(operand) => Ok(Class::Not(copy_one(alloc, operand)?)),
-            Class::OneOf(individuals) => Ok(Class::OneOf(copy_individuals(alloc, individuals)?)),
-            Class::ObjSome(property, filler) => Ok(Class::ObjSome(
-                property.copy(alloc)?,
-                copy_one(alloc, filler)?,
-            )),
-            Class::ObjAll(property, filler) => Ok(Class::ObjAll(
-                property.copy(alloc)?,
-                copy_one(alloc, filler)?,
-            )),
-            Class::ObjValue(property, individual) => Ok(Class::ObjValue(
-                property.copy(alloc)?,
-                individual.copy(alloc)?,
-            )),
-            Class::ObjSelf(property) => Ok(Class::ObjSelf(property.copy(alloc)?)),
-            Class::ObjMin(n, property, filler) => Ok(Class::ObjMin(
-                *n,
-                property.copy(alloc)?,
-                copy_optional(alloc, filler)?,
-            )),
-            Class::ObjMax(n, property, filler) => Ok(Class::ObjMax(
-                *n,
-                property.copy(alloc)?,
-                copy_optional(alloc, filler)?,
-            )),
-            Class::ObjExact(n, property, filler) => Ok(Class::ObjExact(
-                *n,
-                property.copy(alloc)?,
-                copy_optional(alloc, filler)?,
-            )),
-            Class::DataSome(property, range) => Ok(Class::DataSome(
-                property.copy(alloc)?,
-                range.copy(alloc)?,
-            )),
-            Class::DataAll(property, range) => Ok(Class::DataAll(
-                property.copy(alloc)?,
-                range.copy(alloc)?,
-            )),
-            Class::DataValue(property, value) => Ok(Class::DataValue(
-                property.copy(alloc)?,
-                value.copy(alloc)?,
-            )),
-            Class::DataMin(n, property, range) => Ok(Class::DataMin(
-                *n,
-                property.copy(alloc)?,
-                ranges::copy_optional(alloc, range)?,
-            )),
-            Class::DataMax(n, property, range) => Ok(Class::DataMax(
-                *n,
-                property.copy(alloc)?,
-                ranges::copy_optional(alloc, range)?,
-            )),
-            Class::DataExact(n, property, range) => Ok(Class::DataExact(
-                *n,
-                property.copy(alloc)?,
-                ranges::copy_optional(alloc, range)?,
-            )),
+            Class::Named(class) => class.copy(alloc).map(|class| Class::Named(class)),
+            Class::And(operands) => copy_classes(alloc, operands).map(|operands| Class::And(operands)),
+            Class::Or(operands) => copy_classes(alloc, operands).map(|operands| Class::Or(operands)),
+            Class::Not(operand) => copy_one(alloc, operand).map(|operand| Class::Not(operand)),
+            Class::OneOf(individuals) => copy_individuals(alloc, individuals).map(|individuals| Class::OneOf(individuals)),
+            Class::ObjSome(property, filler) => both(property.copy(alloc), copy_one(alloc, filler)).map(|(property, filler)| Class::ObjSome(property, filler)),
+            Class::ObjAll(property, filler) => both(property.copy(alloc), copy_one(alloc, filler)).map(|(property, filler)| Class::ObjAll(property, filler)),
+            Class::ObjValue(property, individual) => both(property.copy(alloc), individual.copy(alloc)).map(|(property, individual)| Class::ObjValue(property, individual)),
+            Class::ObjSelf(property) => property.copy(alloc).map(|property| Class::ObjSelf(property)),
+            Class::ObjMin(n, property, filler) => both(property.copy(alloc), copy_optional(alloc, filler)).map(|(property, filler)| Class::ObjMin(*n, property, filler)),
+            Class::ObjMax(n, property, filler) => both(property.copy(alloc), copy_optional(alloc, filler)).map(|(property, filler)| Class::ObjMax(*n, property, filler)),
+            Class::ObjExact(n, property, filler) => both(property.copy(alloc), copy_optional(alloc, filler)).map(|(property, filler)| Class::ObjExact(*n, property, filler)),
+            Class::DataSome(property, range) => both(property.copy(alloc), range.copy(alloc)).map(|(property, range)| Class::DataSome(property, range)),
+            Class::DataAll(property, range) => both(property.copy(alloc), range.copy(alloc)).map(|(property, range)| Class::DataAll(property, range)),
+            Class::DataValue(property, value) => both(property.copy(alloc), value.copy(alloc)).map(|(property, value)| Class::DataValue(property, value)),
+            Class::DataMin(n, property, range) => both(property.copy(alloc), ranges::copy_optional(alloc, range)).map(|(property, range)| Class::DataMin(*n, property, range)),
+            Class::DataMax(n, property, range) => both(property.copy(alloc), ranges::copy_optional(alloc, range)).map(|(property, range)| Class::DataMax(*n, property, range)),
+            Class::DataExact(n, property, range) => both(property.copy(alloc), ranges::copy_optional(alloc, range)).map(|(property, range)| Class::DataExact(*n, property, range)),
         }
     }
 }

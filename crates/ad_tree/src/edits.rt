@@ -1,21 +1,20 @@
 ghost use Rattle.std.specs.Prelude.{◌≡◌, ◌∷◌, ◌++◌, ◌<◌, [], length, IfOk, OnOk, OnErr};
 
 use crate::axioms::Noted;
-use crate::entities::Entity;
 use crate::many::Many;
 use ad_base::Memory;
 use std::alloc::Global;
 use std::marker::Model;
 
 /// Whether an operation adds its axiom or takes it out.
-#[derive(Clone, Copy, Debug, PartialEq, Eq, PartialOrd, Ord, Hash)]
+#[derive(Clone, Copy, PartialEq, Eq, PartialOrd, Ord, Hash)]
 pub enum Sign {
     Add,
     Remove,
 }
 
 /// One operation of a batch.
-#[derive(Debug, Drop, PartialEq, Eq, PartialOrd, Ord, Hash)]
+#[derive(Drop, PartialEq, Eq, PartialOrd, Ord, Hash)]
 pub struct Op {
     pub sign: Sign,
     pub noted: Noted,
@@ -45,7 +44,7 @@ fn copy_ops(alloc: Global, parts: &[Op]) -> Result<Many<Op>, Memory>
 }
 
 /// Operations on an ontology, to be done one after another.
-#[derive(Debug, Drop)]
+#[derive(Drop)]
 pub struct Batch {
     ops: Many<Op>,
 }
@@ -96,46 +95,5 @@ impl Batch {
         Ok(Batch {
             ops: copy_ops(alloc, self.ops())?,
         })
-    }
-}
-
-/// Entities for which a module is asked.
-#[derive(Debug, Drop)]
-pub struct Seed {
-    entities: Many<Entity>,
-}
-
-impl Model for Seed {
-    ghost use Rattle.std.specs.Prelude.{List};
-    ghost use Rattle.ad_tree.specs.declared.entities.Entity.{Entity};
-
-    ghost Value = { List Entity };
-
-    ghost view = { λ seed. seed.entities };
-}
-
-impl Seed {
-    /// The seed without entities. It takes no memory.
-    pub fn new(alloc: Global) -> Seed
-        ensures { result ≡ [] }
-    {
-        Seed {
-            entities: Many::new(alloc),
-        }
-    }
-
-    /// Puts an entity at the end.
-    pub fn push(&mut self, entity: Entity) -> Result<(), Memory>
-        ensures ok { OnOk result (self.new ≡ self.old ++ entity ∷ []) }
-        ensures err { OnErr result (self.new ≡ self.old) }
-    {
-        self.entities.push(entity)
-    }
-
-    /// The entities, in order.
-    pub fn entities(&self) -> &[Entity]
-        ensures { result.now ≡ self.now }
-    {
-        self.entities.as_slice()
     }
 }

@@ -6,7 +6,7 @@ use std::alloc::Global;
 
 /// A literal as it is spelled (section 5.7 of the Structural Specification): its text alone, with a
 /// language tag, or with the IRI of a datatype. The three spellings are three values.
-#[derive(Debug, Drop, PartialEq, Eq, PartialOrd, Ord, Hash)]
+#[derive(Drop, PartialEq, Eq, PartialOrd, Ord, Hash)]
 pub enum Literal {
     Plain(Word),
     Lang(Word, Word),
@@ -17,7 +17,7 @@ pub enum Literal {
 pub type Literals = Many<Literal>;
 
 /// A constraining facet by its IRI, with its value (section 7.5).
-#[derive(Debug, Drop, PartialEq, Eq, PartialOrd, Ord, Hash)]
+#[derive(Drop, PartialEq, Eq, PartialOrd, Ord, Hash)]
 pub struct Facet {
     pub facet: Word,
     pub value: Literal,

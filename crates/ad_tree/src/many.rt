@@ -11,7 +11,7 @@ use std::hash::{Hash, Hasher};
 use std::marker::Model;
 
 /// A list of parts of a tree, which contracts see as the list of their values.
-#[derive(Debug, Drop)]
+#[derive(Drop)]
 pub struct Many<T> {
     parts: Vec<T>,
 }

@@ -8,7 +8,7 @@ use std::alloc::Global;
 pub type Words = Many<Word>;
 
 /// An object property, or the inverse of a named one (section 6.1 of the Structural Specification).
-#[derive(Debug, Drop, PartialEq, Eq, PartialOrd, Ord, Hash)]
+#[derive(Drop, PartialEq, Eq, PartialOrd, Ord, Hash)]
 pub enum ObjProp {
     Named(Word),
     Inverse(Word),
@@ -18,7 +18,7 @@ pub enum ObjProp {
 pub type ObjProps = Many<ObjProp>;
 
 /// A named individual by its IRI, or an anonymous one by its label (sections 5.6.1 and 5.6.2).
-#[derive(Debug, Drop, PartialEq, Eq, PartialOrd, Ord, Hash)]
+#[derive(Drop, PartialEq, Eq, PartialOrd, Ord, Hash)]
 pub enum Individual {
     Named(Word),
     Anonymous(Word),

@@ -6,14 +6,14 @@ use ad_base::{Memory, Word};
 use std::alloc::Global;
 
 /// What an annotation assertion speaks of: an IRI, or an anonymous individual by its label.
-#[derive(Debug, Drop, PartialEq, Eq, PartialOrd, Ord, Hash)]
+#[derive(Drop, PartialEq, Eq, PartialOrd, Ord, Hash)]
 pub enum Subject {
     Iri(Word),
     Anonymous(Word),
 }
 
 /// The value of an annotation (section 10.1 of the Structural Specification).
-#[derive(Debug, Drop, PartialEq, Eq, PartialOrd, Ord, Hash)]
+#[derive(Drop, PartialEq, Eq, PartialOrd, Ord, Hash)]
 pub enum Value {
     Iri(Word),
     Anonymous(Word),
@@ -21,7 +21,7 @@ pub enum Value {
 }
 
 /// An annotation, which may be annotated itself. Its property is named by its IRI.
-#[derive(Debug, Drop, PartialEq, Eq, PartialOrd, Ord, Hash)]
+#[derive(Drop, PartialEq, Eq, PartialOrd, Ord, Hash)]
 pub struct Annotation {
     pub notes: Annotations,
     pub property: Word,

@@ -8,7 +8,7 @@ use std::hash::{Hash, Hasher};
 use std::marker::Model;
 
 /// A part of a tree in memory of its own, which contracts see as its value.
-#[derive(Debug, Drop)]
+#[derive(Drop)]
 pub struct One<T> {
     part: Boxed<T>,
 }

@@ -7,7 +7,7 @@ use ad_base::{Memory, Word};
 use std::alloc::Global;
 
 /// A data range (section 7 of the Structural Specification). A datatype is named by its IRI.
-#[derive(Debug, Drop, PartialEq, Eq, PartialOrd, Ord, Hash)]
+#[derive(Drop, PartialEq, Eq, PartialOrd, Ord, Hash)]
 pub enum Range {
     Named(Word),
     And(Ranges),

@@ -220,3 +220,14 @@ AnnotationPropertyDomain = codes "AnnotationPropertyDomain"
 
 abbrev pub AnnotationPropertyRange : List ℕ
 AnnotationPropertyRange = codes "AnnotationPropertyRange"
+
+-- a prefix, before a document
+abbrev pub Prefix : List ℕ
+Prefix = codes "Prefix"
+
+-- what the standard has, and no document here
+abbrev pub Import : List ℕ
+Import = codes "Import"
+
+abbrev pub DLSafeRule : List ℕ
+DLSafeRule = codes "DLSafeRule"

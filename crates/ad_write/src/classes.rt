@@ -3,11 +3,12 @@ ghost use Rattle.std.specs.Option.{option_map, option_to_list};
 ghost use Rattle.ad_write.specs.Canonical.{canon_class, canon_iri, canon_optional, canon_property, compound};
 ghost use Rattle.ad_write.specs.Arguments.{behind};
 
+use crate::keywords;
 use crate::pen::Pen;
 use crate::shapes::{begin, list, one, three, two};
 use crate::spelled::{Spelled, argument, separate};
 use ad_base::Word;
-use ad_tree::{Class, ObjProp, One, Range};
+use ad_tree::{Class, Classes, ObjProp, One, Range};
 
 /// A class expression.
 impl Spelled for Class {
@@ -18,102 +19,51 @@ impl Spelled for Class {
     }
 }
 
-// A class expression.
+// A class expression: for each kind its keyword and its arguments.
 #[cycle(class)]
+#[rattlefmt::skip]
 fn write_class<P: Pen>(pen: &mut P, class: &Class)
     ensures { P.writes pen.old pen.new (canon_class class.now) }
 {
     match class {
         Class::Named(name) => name.write(pen),
-        Class::And(operands) => all_classes(pen, b"ObjectIntersectionOf", operands.as_slice()),
-        Class::Or(operands) => all_classes(pen, b"ObjectUnionOf", operands.as_slice()),
-        Class::Not(operand) => one_class(pen, b"ObjectComplementOf", operand.get()),
-        Class::OneOf(members) => list(pen, b"ObjectOneOf", &[], members.as_slice()),
-        Class::ObjSome(property, filler) => filled(
-            pen,
-            b"ObjectSomeValuesFrom",
-            property,
-            filler.get(),
-        ),
-        Class::ObjAll(property, filler) => filled(
-            pen,
-            b"ObjectAllValuesFrom",
-            property,
-            filler.get(),
-        ),
-        Class::ObjValue(property, individual) => two(
-            pen,
-            b"ObjectHasValue",
-            &[],
-            property,
-            individual,
-        ),
-        Class::ObjSelf(property) => one(pen, b"ObjectHasSelf", &[], property),
-        Class::ObjMin(number, property, filler) => counted(
-            pen,
-            b"ObjectMinCardinality",
-            number,
-            property,
-            filler,
-        ),
-        Class::ObjMax(number, property, filler) => counted(
-            pen,
-            b"ObjectMaxCardinality",
-            number,
-            property,
-            filler,
-        ),
-        Class::ObjExact(number, property, filler) => counted(
-            pen,
-            b"ObjectExactCardinality",
-            number,
-            property,
-            filler,
-        ),
-        Class::DataSome(property, range) => two(pen, b"DataSomeValuesFrom", &[], property, range),
-        Class::DataAll(property, range) => two(pen, b"DataAllValuesFrom", &[], property, range),
-        Class::DataValue(property, value) => two(pen, b"DataHasValue", &[], property, value),
-        Class::DataMin(number, property, range) => counted_data(
-            pen,
-            b"DataMinCardinality",
-            number,
-            property,
-            range,
-        ),
-        Class::DataMax(number, property, range) => counted_data(
-            pen,
-            b"DataMaxCardinality",
-            number,
-            property,
-            range,
-        ),
-        Class::DataExact(number, property, range) => counted_data(
-            pen,
-            b"DataExactCardinality",
-            number,
-            property,
-            range,
-        ),
+        Class::And(operands) => all_classes(pen, keywords::OBJECT_INTERSECTION_OF, operands),
+        Class::Or(operands) => all_classes(pen, keywords::OBJECT_UNION_OF, operands),
+        Class::Not(operand) => one_class(pen, keywords::OBJECT_COMPLEMENT_OF, operand),
+        Class::OneOf(members) => list(pen, keywords::OBJECT_ONE_OF, &[], members),
+        Class::ObjSome(property, filler) => filled(pen, keywords::OBJECT_SOME_VALUES_FROM, property, filler),
+        Class::ObjAll(property, filler) => filled(pen, keywords::OBJECT_ALL_VALUES_FROM, property, filler),
+        Class::ObjValue(property, individual) => two(pen, keywords::OBJECT_HAS_VALUE, &[], property, individual),
+        Class::ObjSelf(property) => one(pen, keywords::OBJECT_HAS_SELF, &[], property),
+        Class::ObjMin(number, property, filler) => counted(pen, keywords::OBJECT_MIN_CARDINALITY, number, property, filler),
+        Class::ObjMax(number, property, filler) => counted(pen, keywords::OBJECT_MAX_CARDINALITY, number, property, filler),
+        Class::ObjExact(number, property, filler) => counted(pen, keywords::OBJECT_EXACT_CARDINALITY, number, property, filler),
+        Class::DataSome(property, range) => two(pen, keywords::DATA_SOME_VALUES_FROM, &[], property, range),
+        Class::DataAll(property, range) => two(pen, keywords::DATA_ALL_VALUES_FROM, &[], property, range),
+        Class::DataValue(property, value) => two(pen, keywords::DATA_HAS_VALUE, &[], property, value),
+        Class::DataMin(number, property, range) => counted_data(pen, keywords::DATA_MIN_CARDINALITY, number, property, range),
+        Class::DataMax(number, property, range) => counted_data(pen, keywords::DATA_MAX_CARDINALITY, number, property, range),
+        Class::DataExact(number, property, range) => counted_data(pen, keywords::DATA_EXACT_CARDINALITY, number, property, range),
     }
 }
 
 // A keyword with one class expression.
 #[cycle(class)]
-fn one_class<P: Pen>(pen: &mut P, word: &[u8], operand: &Class)
+fn one_class<P: Pen>(pen: &mut P, word: &str, operand: &One<Class>)
     ensures { P.writes pen.old pen.new (compound word.now (canon_class operand.now ∷ [])) }
 {
     begin(pen, word, &[]);
-    write_class(pen, operand);
+    write_class(pen, operand.get());
     pen.put(b")");
 }
 
 // A keyword with a list of class expressions.
 #[cycle(class)]
-fn all_classes<P: Pen>(pen: &mut P, word: &[u8], operands: &[Class])
+fn all_classes<P: Pen>(pen: &mut P, word: &str, operands: &Classes)
     ensures { P.writes pen.old pen.new (compound word.now (map canon_class operands.now)) }
 {
     let first = begin(pen, word, &[]);
-    write_classes(pen, first, operands);
+    write_classes(pen, first, operands.as_slice());
     pen.put(b")");
 }
 
@@ -131,13 +81,13 @@ fn write_classes<P: Pen>(pen: &mut P, mut first: bool, classes: &[Class])
 
 // A keyword with an object property and the class of its values.
 #[cycle(class)]
-fn filled<P: Pen>(pen: &mut P, word: &[u8], property: &ObjProp, filler: &Class)
+fn filled<P: Pen>(pen: &mut P, word: &str, property: &ObjProp, filler: &One<Class>)
     ensures { P.writes pen.old pen.new (compound word.now (canon_property property.now ∷ canon_class filler.now ∷ [])) }
 {
     let first = begin(pen, word, &[]);
     argument(pen, first, property);
     separate(pen, false);
-    write_class(pen, filler);
+    write_class(pen, filler.get());
     pen.put(b")");
 }
 
@@ -145,7 +95,7 @@ fn filled<P: Pen>(pen: &mut P, word: &[u8], property: &ObjProp, filler: &Class)
 #[cycle(class)]
 fn counted<P: Pen>(
     pen: &mut P,
-    word: &[u8],
+    word: &str,
     number: &u32,
     property: &ObjProp,
     filler: &Option<One<Class>>,
@@ -176,7 +126,7 @@ fn write_filler<P: Pen>(pen: &mut P, filler: &Option<One<Class>>)
 // A keyword with a number, a data property and, where it is given, the data range of the values that count.
 fn counted_data<P: Pen>(
     pen: &mut P,
-    word: &[u8],
+    word: &str,
     number: &u32,
     property: &Word,
     range: &Option<Range>,

@@ -9,8 +9,7 @@ pub use writes::{
 mod axioms;
 mod classes;
 mod inked;
-#[cfg(test)]
-mod keyword_tests;
+pub mod keywords;
 mod literals;
 mod names;
 mod notes;
@@ -19,6 +18,4 @@ mod ranges;
 mod scale;
 mod shapes;
 mod spelled;
-#[cfg(test)]
-mod tests;
 mod writes;

@@ -1,6 +1,7 @@
 ghost use Rattle.std.specs.Prelude.{◌≡◌};
 ghost use Rattle.ad_write.specs.Canonical.{canon_anonymous, canon_entity, canon_individual, canon_property, canon_subject, kind_word};
 
+use crate::keywords;
 use crate::pen::Pen;
 use crate::shapes::one;
 use crate::spelled::Spelled;
@@ -14,7 +15,7 @@ impl Spelled for ObjProp {
     fn write<P: Pen>(&self, pen: &mut P) {
         match self {
             ObjProp::Named(name) => name.write(pen),
-            ObjProp::Inverse(name) => one(pen, b"ObjectInverseOf", &[], name),
+            ObjProp::Inverse(name) => one(pen, keywords::OBJECT_INVERSE_OF, &[], name),
         }
     }
 }
@@ -61,15 +62,15 @@ pub fn write_anonymous<P: Pen>(pen: &mut P, label: &Word)
 }
 
 // The word of a kind of entity.
-fn keyword(kind: EntityKind) -> &'static [u8]
+fn keyword(kind: EntityKind) -> &'static str
     ensures { result.now ≡ kind_word kind }
 {
     match kind {
-        EntityKind::Class => b"Class",
-        EntityKind::Datatype => b"Datatype",
-        EntityKind::ObjectProperty => b"ObjectProperty",
-        EntityKind::DataProperty => b"DataProperty",
-        EntityKind::AnnotationProperty => b"AnnotationProperty",
-        EntityKind::NamedIndividual => b"NamedIndividual",
+        EntityKind::Class => keywords::CLASS,
+        EntityKind::Datatype => keywords::DATATYPE,
+        EntityKind::ObjectProperty => keywords::OBJECT_PROPERTY,
+        EntityKind::DataProperty => keywords::DATA_PROPERTY,
+        EntityKind::AnnotationProperty => keywords::ANNOTATION_PROPERTY,
+        EntityKind::NamedIndividual => keywords::NAMED_INDIVIDUAL,
     }
 }

@@ -2,9 +2,10 @@ ghost use Rattle.std.specs.Prelude.{map};
 ghost use Rattle.ad_write.specs.Canonical.{canon_annotation, canon_value};
 ghost use Rattle.ad_write.specs.Arguments.{behind};
 
+use crate::keywords;
 use crate::names::write_anonymous;
 use crate::pen::Pen;
-use crate::spelled::{Spelled, argument, separate};
+use crate::spelled::{Spelled, argument, open, separate};
 use ad_tree::{Annotation, Value};
 
 /// An annotation, with its own annotations before its property and its value.
@@ -35,7 +36,7 @@ fn write_annotation<P: Pen>(pen: &mut P, note: &Annotation)
     ensures { P.writes pen.old pen.new (canon_annotation note.now) }
 {
     let notes = note.notes.as_slice();
-    pen.put(b"Annotation(");
+    open(pen, keywords::ANNOTATION);
     write_annotations(pen, true, notes);
     argument(pen, notes.is_empty(), &note.property);
     argument(pen, false, &note.value);

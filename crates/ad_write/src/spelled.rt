@@ -1,4 +1,4 @@
-ghost use Rattle.std.specs.Prelude.{ℕ, List, ◌∷◌, [], map, decimal};
+ghost use Rattle.std.specs.Prelude.{ℕ, List, ◌∷◌, ◌++◌, [], map, codes, decimal};
 ghost use Rattle.ad_write.specs.Canonical.{canon_iri};
 ghost use Rattle.ad_write.specs.Arguments.{behind, gap};
 
@@ -35,6 +35,14 @@ impl Spelled for u32 {
         let count = digits(u64::from(*self), &mut out);
         pen.put(&out[..usize::from(count)]);
     }
+}
+
+/// A keyword, and the parenthesis behind it.
+pub fn open<P: Pen>(pen: &mut P, word: &str)
+    ensures { P.writes pen.old pen.new (word.now ++ codes "(") }
+{
+    pen.put(word.as_bytes());
+    pen.put(b"(");
 }
 
 /// What stands before an argument: a space, unless it is the first.

@@ -5,9 +5,11 @@ ghost use Rattle.ad_write.specs.Canonical.{canon, canon_line, canon_document, do
 
 use crate::axioms::{write_ended, write_noted};
 use crate::inked::Inked;
+use crate::keywords;
 use crate::pen::Pen;
 use crate::scale::Scale;
-use ad_io::{Sink, Wrote, put_all};
+use crate::spelled::open;
+use ad_io::{Sink, Wrote};
 use ad_tree::{Lent, Noted};
 
 /// How many bytes the document without axioms has.
@@ -44,7 +46,12 @@ pub fn write_head<K: Sink>(sink: &mut K) -> Wrote
     ensures bytes { Puts (K.written sink.old) (K.written sink.new) result document_head }
     ensures cause { PutCause (K.faults sink.old) (K.faults sink.new) result }
 {
-    put_all(sink, b"Ontology(\n")
+    let mut pen = Inked {
+        sink,
+        wrote: Wrote::All,
+    };
+    put_head(&mut pen);
+    pen.wrote
 }
 
 /// Writes what stands behind a document's axioms.
@@ -52,7 +59,12 @@ pub fn write_foot<K: Sink>(sink: &mut K) -> Wrote
     ensures bytes { Puts (K.written sink.old) (K.written sink.new) result document_foot }
     ensures cause { PutCause (K.faults sink.old) (K.faults sink.new) result }
 {
-    put_all(sink, b")\n")
+    let mut pen = Inked {
+        sink,
+        wrote: Wrote::All,
+    };
+    put_foot(&mut pen);
+    pen.wrote
 }
 
 /// Writes the document of these axioms. It takes no memory.
@@ -88,9 +100,24 @@ pub fn document_length()
 fn write_all<A: Lent, P: Pen>(pen: &mut P, axioms: &[A])
     ensures { P.writes pen.old pen.new (canon_document (map A.lent axioms.now)) }
 {
-    pen.put(b"Ontology(\n");
+    put_head(pen);
     for each in axioms {
         write_ended(pen, each.noted());
     }
+    put_foot(pen);
+}
+
+// What stands before a document's axioms, with any pen.
+fn put_head<P: Pen>(pen: &mut P)
+    ensures { P.writes pen.old pen.new document_head }
+{
+    open(pen, keywords::ONTOLOGY);
+    pen.put(b"\n");
+}
+
+// What stands behind a document's axioms, with any pen.
+fn put_foot<P: Pen>(pen: &mut P)
+    ensures { P.writes pen.old pen.new document_foot }
+{
     pen.put(b")\n");
 }

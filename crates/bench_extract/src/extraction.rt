@@ -1,4 +1,5 @@
 ghost use Rattle.std.specs.Prelude.{◌≡◌, ◌≤◌, ◌<◌, length};
+ghost use Rattle.ad_base.specs.Limits.{AreWithinStandard};
 
 use crate::tree::Both;
 use ad_base::{Kind, Limits, Memory};
@@ -25,15 +26,16 @@ fn fill(row: &mut Row, symbols: &[u32])
 pub(crate) fn sizes(
     alloc: Global,
     universe: &FlatUniverse<Both>,
+    limits: &Limits,
     kind: Kind,
     count: u32,
 ) -> Result<u64, Memory>
-    requires slots { universe.now.slots.most ≡ 16384 }
-    requires symbols { universe.now.slots.symbols ≡ 65536 }
-    requires count { count ≤ 16384 }
+    requires limits { AreWithinStandard limits.now }
+    requires slots { universe.now.slots.most ≡ limits.now.axioms }
+    requires symbols { universe.now.slots.symbols ≡ limits.now.entities }
+    requires count { count ≤ limits.now.axioms }
 {
-    let limits = Limits::standard();
-    let mut starred = Starred::of(alloc, Queue::new(alloc, &limits)?, &limits)?;
+    let mut starred = Starred::of(alloc, Queue::new(alloc, limits)?, limits)?;
     let mut seed = empty_row(alloc, limits.entities)?;
     let mut out = empty_row(alloc, limits.axioms)?;
     let mut closure = empty_row(alloc, limits.entities)?;

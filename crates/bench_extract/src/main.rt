@@ -5,16 +5,13 @@
 ghost use Rattle.std.specs.Prelude.{◌≤◌, IfSome};
 
 use crate::tree::class_tree;
-use ad_base::{Kind, number};
+use ad_base::{Kind, Limits, number};
 use anyhow::anyhow;
 use std::env;
 use std::hash::RandomState;
 
 mod extraction;
 mod tree;
-
-// How many axioms there may be.
-const MOST: u32 = 16_384;
 
 fn kind_of(word: &str) -> Option<Kind> {
     match word {
@@ -25,11 +22,12 @@ fn kind_of(word: &str) -> Option<Kind> {
     }
 }
 
-fn count_of(word: &str) -> Option<u32>
-    ensures { IfSome result (λ count. count ≤ 16384) }
+// The count that the word spells, where there may be so many axioms.
+fn count_of(word: &str, most: u32) -> Option<u32>
+    ensures { IfSome result (λ count. count ≤ most) }
 {
     let count = number(word.as_bytes())?;
-    if count <= u64::from(MOST) {
+    if count <= u64::from(most) {
         Some(count as u32)
     } else {
         None
@@ -38,18 +36,19 @@ fn count_of(word: &str) -> Option<u32>
 
 fn main(rt: HostRuntime) -> anyhow::Result<()> {
     let alloc = rt.alloc();
+    let limits = Limits::standard();
     let mut words = env::args(&rt)?;
     let _program = words.next();
     let first = words.next().ok_or(anyhow!("no count"))?;
-    let Some(count) = count_of(first.as_str()) else {
+    let Some(count) = count_of(first.as_str(), limits.axioms) else {
         return Err(anyhow!("no such count"));
     };
-    let universe = class_tree(alloc, RandomState::new(&rt)?, count)?;
+    let universe = class_tree(alloc, RandomState::new(&rt)?, &limits, count)?;
     for word in words {
         let Some(kind) = kind_of(word.as_str()) else {
             return Err(anyhow!("no such kind"));
         };
-        let sum = extraction::sizes(alloc, &universe, kind, count)?;
+        let sum = extraction::sizes(alloc, &universe, &limits, kind, count)?;
         println!(rt; "{} {sum}", word.as_str())?;
     }
     Ok(())

@@ -1,5 +1,6 @@
 ghost use Rattle.std.specs.Prelude.{◌≡◌, ◌≤◌, ◌/◌, IfOk, IsTrue, length};
-ghost use Rattle.ad_tree.specs.Signature.{is_logical};
+ghost use Rattle.ad_base.specs.Limits.{AreWithinStandard};
+ghost use Rattle.ad_tree.specs.Logical.{is_logical};
 
 use ad_base::{Limits, Memory, Side, Word};
 use ad_bottom::local_bottom;
@@ -41,15 +42,16 @@ fn sub_class(alloc: Global, below: u32, above: u32) -> Result<Noted, Memory>
 pub(crate) fn class_tree(
     alloc: Global,
     keys: RandomState,
+    limits: &Limits,
     count: u32,
 ) -> anyhow::Result<FlatUniverse<Both>>
-    requires { count ≤ 16384 }
-    ensures slots { IfOk result (λ universe. universe.slots.most ≡ 16384) }
-    ensures symbols { IfOk result (λ universe. universe.slots.symbols ≡ 65536) }
+    requires limits { AreWithinStandard limits.now }
+    requires count { count ≤ limits.now.axioms }
+    ensures slots { IfOk result (λ universe. universe.slots.most ≡ limits.now.axioms) }
+    ensures symbols { IfOk result (λ universe. universe.slots.symbols ≡ limits.now.entities) }
 {
-    let limits = Limits::standard();
     let mut symbols = Symbols::new(alloc, keys, limits.entities)?;
-    let mut universe = FlatUniverse::empty(alloc, &limits)?;
+    let mut universe = FlatUniverse::empty(alloc, limits)?;
     for i in 0..count {
         let noted = sub_class(alloc, i + 1, (i + 1) / 2)?;
         add(alloc, &mut universe, &mut symbols, &noted)?;

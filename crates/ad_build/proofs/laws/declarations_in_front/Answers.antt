@@ -1,4 +1,4 @@
-use Rattle.ad_build.proofs.HeadLemmas.{heads_all, none_other, front_spelled}
+use Rattle.ad_prefixes.proofs.HeadLemmas.{heads_all, none_other, front_spelled}
 use Rattle.ad_build.proofs.laws.declarations_in_front.Goals as goal
 
 pub returns : goal.returns

@@ -2,7 +2,7 @@ use Rattle.std.proofs.Common.{false}
 use Rattle.ad_grammar.specs.Names.{SpellsProperty, SpellsIndividual, SpellsLiteral}
 use Rattle.ad_grammar.specs.Phrases.{SpellsRange, SpellsClass}
 use Rattle.ad_grammar.specs.Axioms.{SpellsNoted}
-use Rattle.ad_build.specs.Items.{as_class, as_range, as_property, as_individual, as_literal, as_axiom}
+use Rattle.ad_terms.specs.Items.{as_class, as_range, as_property, as_individual, as_literal, as_axiom}
 use Rattle.ad_build.proofs.Phrases.{properties_read, individuals_read, literals_read, ranges_read}
 use Rattle.ad_build.proofs.ClassPhrases.{classes_read}
 use Rattle.ad_build.proofs.Uniqueness.{once, noteds_read}

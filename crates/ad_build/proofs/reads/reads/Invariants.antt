@@ -1,7 +1,7 @@
 use Rattle.std.proofs.Common.{◌≡◌, ◌≤◌, length, drop}
 use Rattle.ad_lex.specs.Lexemes.{lexemes}
 use Rattle.ad_grammar.specs.Texts.{in_force}
-use Rattle.ad_build.specs.Declarations.{declarations}
+use Rattle.ad_prefixes.specs.Declarations.{declarations}
 use Rattle.ad_build.specs.Reads.{reads}
 use Rattle.ad_build.proofs.reads.reads.Given as goal
 

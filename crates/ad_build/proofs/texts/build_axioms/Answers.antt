@@ -2,7 +2,7 @@ use Rattle.std.proofs.Common.{◌≡◌, ℕ, ◌+◌, ◌≤◌, ◌<◌, List,
 use Rattle.ad_lex.specs.Lexemes.{Lexeme, lexeme, lexemes}
 use Rattle.ad_grammar.specs.Names.{Words}
 use Rattle.ad_grammar.specs.Texts.{in_force}
-use Rattle.ad_build.specs.Declarations.{declarations}
+use Rattle.ad_prefixes.specs.Declarations.{declarations}
 use Rattle.ad_build.specs.Reads.{reads}
 use Rattle.ad_build.proofs.TextLemmas.{few_items, of_body, behind_two, length_left, stated_read, ontology_long}
 use Rattle.ad_build.proofs.texts.build_axioms.Goals as goal

@@ -2,9 +2,9 @@ use Rattle.std.proofs.Common.{drop, ◌∙◌, ap}
 use Rattle.ad_lex.specs.Lexemes.{lexemes}
 use Rattle.ad_grammar.specs.Names.{Words}
 use Rattle.ad_grammar.specs.Texts.{in_force}
-use Rattle.ad_build.specs.Declarations.{declarations}
-use Rattle.ad_build.specs.Items.{as_entity}
-use Rattle.ad_build.specs.Shapes.{each}
+use Rattle.ad_prefixes.specs.Declarations.{declarations}
+use Rattle.ad_terms.specs.Items.{as_entity}
+use Rattle.ad_terms.specs.Shapes.{each}
 use Rattle.ad_build.proofs.TextLemmas.{entities_of}
 use Rattle.ad_build.proofs.texts.build_entities.Goals as goal
 

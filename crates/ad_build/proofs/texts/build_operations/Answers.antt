@@ -2,7 +2,7 @@ use Rattle.std.proofs.Common.{◌≡◌, ℕ, ◌≤◌, List, length, drop, ◌
 use Rattle.ad_lex.specs.Lexemes.{lexemes}
 use Rattle.ad_grammar.specs.Names.{Words}
 use Rattle.ad_grammar.specs.Texts.{in_force}
-use Rattle.ad_build.specs.Declarations.{declarations}
+use Rattle.ad_prefixes.specs.Declarations.{declarations}
 use Rattle.ad_build.specs.Lists.{operations}
 use Rattle.ad_build.proofs.TextLemmas.{few_items, operations_read}
 use Rattle.ad_build.proofs.texts.build_operations.Goals as goal

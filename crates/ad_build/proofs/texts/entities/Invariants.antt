@@ -1,7 +1,7 @@
 use Rattle.std.proofs.Common.{◌≡◌, ◌++◌, length}
 use Rattle.std.specs.Option.{option_map}
-use Rattle.ad_build.specs.Items.{as_entity}
-use Rattle.ad_build.specs.Shapes.{each}
+use Rattle.ad_terms.specs.Items.{as_entity}
+use Rattle.ad_terms.specs.Shapes.{each}
 use Rattle.ad_build.proofs.texts.entities.Given as goal
 
 abbrev pub invariant-entities : goal.invariant-entities

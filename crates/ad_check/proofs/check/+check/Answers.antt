@@ -4,8 +4,8 @@ use Rattle.std.proofs.lemmas.Result.{err_from_is_err_and}
 use Rattle.ad_lex.specs.Lexemes.{lexeme, lexemes}
 use Rattle.ad_check.specs.Machine.{halt}
 use Rattle.ad_check.specs.Reads.{Halts}
-use Rattle.ad_check.specs.declared.items.Item.TheVariants as it
-use Rattle.ad_check.specs.declared.items.Kind.TheVariants as kind
+use Rattle.ad_check.specs.declared.items.Symbol.TheVariants as it
+use Rattle.ad_check.specs.declared.items.Nonterminal.TheVariants as kind
 use Rattle.ad_check.proofs.Readings.{reads_as, reads_then, reads_halt, reads_step, reads_skip, reads_skip_end, reads_over}
 use Rattle.ad_check.proofs.Single.{body_same, filler_same, filler_name, any_stops, tail_other, reads_on, halts_at, leads_on, star_on, star_over, until_on, until_halts, until_over, later, count, count_back, all_read}
 use Rattle.ad_check.proofs.check.+check.Goals as goal

@@ -1,7 +1,7 @@
 use Rattle.std.proofs.Common.{◌≤◌, length, [], ◌∷◌, ◌+◌, ◌-◌, ◌*◌, drop}
 use Rattle.ad_lex.specs.Lexemes.{lexemes}
 use Rattle.ad_check.specs.Reads.{Leads}
-use Rattle.ad_check.specs.declared.items.Item.TheVariants as it
+use Rattle.ad_check.specs.declared.items.Symbol.TheVariants as it
 use Rattle.ad_check.proofs.check.+check.Given as goal
 
 abbrev pub decreases-check : goal.decreases-check

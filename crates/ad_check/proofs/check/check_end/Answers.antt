@@ -2,7 +2,7 @@ use Rattle.std.proofs.Common.{◌∷◌, [], false, sym}
 use Rattle.ad_lex.specs.Lexemes.{lexeme, lexemes}
 use Rattle.ad_check.specs.Machine.{halt}
 use Rattle.ad_check.specs.Reads.{Halts}
-use Rattle.ad_check.specs.declared.items.Item.TheVariants as it
+use Rattle.ad_check.specs.declared.items.Symbol.TheVariants as it
 use Rattle.ad_check.proofs.Single.{sign_read, end_right, end_stops}
 use Rattle.ad_check.proofs.check.check_end.Goals as goal
 

@@ -1,17 +1,19 @@
-use Rattle.std.proofs.Common.{◌∷◌, []}
+use Rattle.std.proofs.Common.{subst}
 use Rattle.ad_lex.specs.Lexemes.{lexemes}
-use Rattle.ad_check.specs.declared.items.Item.TheVariants as it
-use Rattle.ad_check.proofs.Checked.{phrase_ok, phrase_err, phrase_within, phrase_token}
+use Rattle.ad_check.specs.Stops.{ChecksFrom, form_of}
+use Rattle.ad_check.proofs.Checked.{ok_after, ok_longest, err_none, err_after, err_first, err_what}
 use Rattle.ad_check.proofs.texts.check_phrase.Goals as goal
 
-pub stop_of-requires-clause-token : goal.stop_of-requires-clause-token
-stop_of-requires-clause-token c = phrase_within c.args.text.now c.args.tokens.now (it.One c.args.kind ∷ []) c.args.from c.in-Err.halt c.requires.from c.in-Err.ensures.reads
-
-pub stop_of-requires-clause-wide : goal.stop_of-requires-clause-wide
-stop_of-requires-clause-wide c = phrase_token c.args.text.now c.args.tokens.now (it.One c.args.kind ∷ []) c.args.from c.in-Err.halt c.requires.from c.in-Err.ensures.reads
-
-pub returns-in-Ok : goal.returns-in-Ok
-returns-in-Ok c = λ f is. phrase_ok f (lexemes c.args.text.now c.args.tokens.now) (it.One c.args.kind ∷ []) c.args.from c.in-Ok.to is c.in-Ok.ensures.reads
-
-pub returns-in-Err : goal.returns-in-Err
-returns-in-Err c = λ f is. phrase_err f (lexemes c.args.text.now c.args.tokens.now) (it.One c.args.kind ∷ []) c.args.from c.in-Err.halt c.stop_of.result is c.in-Err.ensures.reads c.stop_of.ensures.token c.stop_of.ensures.what
+pub returns : goal.returns
+returns c =
+    let ts = lexemes c.args.text.now c.args.tokens.now in
+    let f = form_of c.args.phrase in
+    let checks : ChecksFrom f ts c.args.from c.longest.result = subst (λ tokens. ChecksFrom f (lexemes c.args.text.now tokens) c.args.from c.longest.result) c.list.ensures.value (c.longest.ensures f c.kind.ensures) in
+    record {
+      after = ok_after f ts c.args.from c.longest.result checks;
+      longest = ok_longest f ts c.args.from c.longest.result checks;
+      none = err_none f ts c.args.from c.longest.result checks;
+      stop = err_after f ts c.args.from c.longest.result checks;
+      first = err_first f ts c.args.from c.longest.result checks;
+      what = err_what f ts c.args.from c.longest.result checks;
+    }

@@ -1,9 +1,9 @@
 -- One more axiom counts where it is logical.
 use Rattle.std.proofs.Common.{◌≡◌, ◌+◌, cond, length, take, arith, subst, ap, ◌∙◌}
 use Rattle.std.specs.Arc.{arc_value}
-use Rattle.ad_tree.specs.Signature.{is_logical}
+use Rattle.ad_tree.specs.Logical.{is_logical}
 use Rattle.ad_tree.specs.declared.axioms.Noted.{Noted}
-use Rattle.ad_edition.specs.Limit.{logical}
+use Rattle.ad_syntax_laws.specs.OntologyModule.{logical}
 use Rattle.ad_edition.specs.Places.{values}
 use Rattle.ad_edition.proofs.WorkingLemmas.{value_at, length-values}
 use Rattle.ad_edition.proofs.StepLemmas.{logical_more}

@@ -1,7 +1,7 @@
 use Rattle.std.proofs.Common.{◌≡◌, ℕ, Some, take, IsTrue}
 use Rattle.std.specs.Option.{IsSome}
-use Rattle.ad_tree.specs.Entities.{has_entity}
-use Rattle.ad_tree.specs.declared.entities.Entity.{Entity}
+use Rattle.ad_entity.specs.Entities.{has_entity}
+use Rattle.ad_entity.specs.declared.entities.Entity.{Entity}
 use Rattle.ad_signature.specs.Numbering.{number_in}
 use Rattle.ad_flat.proofs.adding.enter_all.Given as goal
 

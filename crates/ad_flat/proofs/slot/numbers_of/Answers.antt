@@ -1,8 +1,8 @@
 use Rattle.std.proofs.Common.{◌≡◌, IsTrue, [], ◌∷◌, ◌++◌, Some, map, take, get_or, sym, ap, ◌∙◌, subst, arith}
 use Rattle.std.specs.Option.{IsSome, unwrap_or}
 use Rattle.std.proofs.lemmas.List.{map_more}
-use Rattle.ad_tree.specs.Entities.{same_entity, has_entity}
-use Rattle.ad_tree.specs.declared.entities.Entity.{Entity}
+use Rattle.ad_entity.specs.Entities.{same_entity, has_entity}
+use Rattle.ad_entity.specs.declared.entities.Entity.{Entity}
 use Rattle.ad_flat.proofs.DistinctLemmas.{entity_decides, stands_at}
 use Rattle.ad_flat.proofs.slot.numbers_of.Goals as goal
 

@@ -3,6 +3,7 @@ use Rattle.std.proofs.Common.{◌*◌, ◌<◌, [], None, get_or, length, sym, s
 use Rattle.std.specs.Option.{option_map}
 use Rattle.ad_theory.specs.Tally.{IsRaisedBy}
 use Rattle.ad_genuine.specs.Found.{AreFound, rows_of_kind}
+use Rattle.ad_genuine.proofs.FoundLemmas.{raised-le}
 use Rattle.ad_genuine.proofs.GenuineRows.{group_below, tables_genuine}
 use Rattle.rayon.proofs.ListFacts.{IfOk-then}
 use Rattle.ad_genuine.proofs.finding.scratch.Goals as goal
@@ -40,3 +41,9 @@ returns-clause-runs g c =
     let count = ap length c.deref.ensures.value ∙ ap length c.in_ok-grouping.ensures.groups.firsts_are in
     IfOk-then c.rows_for.result _ _ c.rows_for.ensures (λ tables each.
     subst (λ n. IsRaisedBy n c.args.tally.now.runs c.add.new.self.runs) (c.in_ok-found.ensures.runs ∙ ap (λ n. 3 * n) count) c.add.ensures.runs)
+
+pub returns-clause-tests : goal.returns-clause-tests
+returns-clause-tests g c = raised-le c.in_ok-found.found.tally.tests c.args.tally.now.tests c.add.new.self.tests c.add.ensures.tests
+
+pub returns-clause-counted : goal.returns-clause-counted
+returns-clause-counted g c = raised-le c.in_ok-found.found.tally.runs c.args.tally.now.runs c.add.new.self.runs c.add.ensures.runs

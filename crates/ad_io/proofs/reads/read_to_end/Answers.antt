@@ -1,19 +1,23 @@
--- Each read goes on behind what was filled so far.
-use Rattle.std.proofs.Common.{◌∙◌, arith, rules, length-drop}
-use Rattle.ad_io.proofs.FlowLemmas.{reads_more}
+-- Each clause follows from how reading ended.
+use Rattle.ad_io.proofs.ReadingLemmas.{on_long, on_failed, on_memory, on_cause, text_is_longer, text_is_read}
 use Rattle.ad_io.proofs.reads.read_to_end.Goals as goal
 
-pub loop-filled-preserved : goal.loop-filled-preserved
-loop-filled-preserved g c =
-    let filled = c.loop-filled.filled in
-    let before = c.loop-filled.bytes in
-    let after = c.read_behind.new.bytes in
-    let read = c.in-Bytes.ensures in
-    let taken = simp length-drop at read.bytes.1 in
-    let kept = read.kept ∙ c.make_room.ensures.kept in
-    record {
-      filled = omega (arith, after.ok.0);
-      within = search rules;
-      lost = reads_more _ _ _ before.items after.items filled c.in-Bytes.n kept c.loop-filled.invariant.lost read.bytes.2;
-      later = search rules;
-    }
+pub returns-in-Ok-clause-not_too_long : goal.returns-in-Ok-clause-not_too_long
+returns-in-Ok-clause-not_too_long g c text is told ok =
+    let read = c.in-Ok.ensures.bytes in text_is_read _ _ text _ _ is told read.0 read.1 read.2
+
+pub returns-in-Err-clause-long : goal.returns-in-Err-clause-long
+returns-in-Err-clause-long g c = on_long _ _ _ c.read_into.new.bytes.items c.in-Err.end c.in-Err.ensures.bytes
+
+pub returns-in-Err-clause-failed : goal.returns-in-Err-clause-failed
+returns-in-Err-clause-failed g c = on_failed _ _ _ c.read_into.new.bytes.items c.in-Err.end c.in-Err.ensures.bytes
+
+pub returns-in-Err-clause-memory : goal.returns-in-Err-clause-memory
+returns-in-Err-clause-memory g c = on_memory _ _ _ c.read_into.new.bytes.items c.in-Err.end c.in-Err.ensures.bytes
+
+pub returns-in-Err-clause-cause : goal.returns-in-Err-clause-cause
+returns-in-Err-clause-cause g c = on_cause _ _ c.in-Err.end c.in-Err.ensures.cause
+
+pub returns-in-Err-clause-too_long : goal.returns-in-Err-clause-too_long
+returns-in-Err-clause-too_long g c text is told long =
+    text_is_longer _ _ text _ is told (on_long _ _ _ c.read_into.new.bytes.items c.in-Err.end c.in-Err.ensures.bytes long)

@@ -1,6 +1,6 @@
 -- Once an operand was met that isn't surely empty, all that are left have to be.
 use Rattle.std.proofs.Common.{◌≡◌, drop, map}
-use Rattle.ad_tree.specs.Locality as table
+use Rattle.ad_locality.specs.Locality as table
 use Rattle.ad_local.proofs.OperandLemmas.{disjoint_left}
 use Rattle.ad_local.proofs.operands.are_disjoint.Given as goal
 

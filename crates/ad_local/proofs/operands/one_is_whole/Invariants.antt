@@ -1,6 +1,6 @@
 -- What the operands so far and those that are left give together is what all give.
 use Rattle.std.proofs.Common.{◌≡◌, drop, map}
-use Rattle.ad_tree.specs.Locality as table
+use Rattle.ad_locality.specs.Locality as table
 use Rattle.ad_local.proofs.OperandLemmas.{one_left}
 use Rattle.ad_local.proofs.operands.one_is_whole.Given as goal
 

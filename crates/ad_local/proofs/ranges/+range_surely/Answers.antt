@@ -1,15 +1,15 @@
 -- One operand more.
 use Rattle.std.proofs.Common.{◌∙◌}
-use Rattle.ad_tree.specs.Locality as table
+use Rattle.ad_locality.specs.Locality as table
 use Rattle.ad_local.proofs.OperandLemmas.{intersection_more, union_more}
 use Rattle.ad_local.proofs.ranges.+range_surely.Goals as goal
 
-pub intersection-preserved : goal.intersection-preserved
-intersection-preserved g t c =
-    rw (c.some_of-found.ensures, c.range_surely.ensures)
-    (intersection_more (table.range_surely c.args.side (g.S.Seen.member c.args.seen.now)) c.intersection.found c.as_slice-operand-items.result.now c.intersection.operand-index c.operand-item.result c.intersection-test.true c.operand-item.is ∙ c.intersection.invariant)
+pub intersection-operands-preserved : goal.intersection-operands-preserved
+intersection-operands-preserved g t c =
+    rw (c.both-found.ensures, c.range_surely.ensures)
+    (intersection_more (table.range_surely c.args.side (g.S.Seen.member c.args.seen.now)) c.operands.found c.args.operands.now c.operands.operand-index c.operand-item.result c.operands-test.true c.operand-item.is ∙ c.operands.invariant)
 
-pub union-preserved : goal.union-preserved
-union-preserved g t c =
-    rw (c.either-found.ensures, c.range_surely-in-union.ensures)
-    (union_more (table.range_surely c.args.side (g.S.Seen.member c.args.seen.now)) c.union.found c.as_slice-operand-items-in-Or.result.now c.union.operand-index c.operand-item-in-union.result c.union-test.true c.operand-item-in-union.is ∙ c.union.invariant)
+pub union-operands-preserved : goal.union-operands-preserved
+union-operands-preserved g t c =
+    rw (c.either-found.ensures, c.range_surely.ensures)
+    (union_more (table.range_surely c.args.side (g.S.Seen.member c.args.seen.now)) c.operands.found c.args.operands.now c.operands.operand-index c.operand-item.result c.operands-test.true c.operand-item.is ∙ c.operands.invariant)

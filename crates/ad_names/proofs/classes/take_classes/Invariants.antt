@@ -1,7 +1,7 @@
 -- What was taken, with what is left to take, is all.
 use Rattle.std.proofs.Common.{◌≡◌, drop}
 use Rattle.std.specs.List.{fold, flat_map}
-use Rattle.ad_tree.specs.Signature.{of_class}
+use Rattle.ad_locality.specs.Signature.{of_class}
 use Rattle.ad_names.proofs.classes.take_classes.Given as goal
 
 abbrev pub invariant-loop-class : goal.invariant-loop-class

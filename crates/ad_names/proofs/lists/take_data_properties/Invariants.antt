@@ -1,8 +1,8 @@
 -- What was taken, with what is left to take, is all.
 use Rattle.std.proofs.Common.{◌≡◌, drop}
 use Rattle.std.specs.List.{fold, flat_map}
-use Rattle.ad_tree.specs.Signature.{named}
-use Rattle.ad_tree.specs.declared.entities.EntityKind.TheVariants as kinds
+use Rattle.ad_locality.specs.Signature.{named}
+use Rattle.ad_entity.specs.declared.entities.EntityKind.TheVariants as kinds
 use Rattle.ad_names.proofs.lists.take_data_properties.Given as goal
 
 abbrev pub invariant-loop-property : goal.invariant-loop-property

@@ -1,7 +1,7 @@
 -- What was taken, with what is left to take, is all.
 use Rattle.std.proofs.Common.{◌≡◌, drop}
 use Rattle.std.specs.List.{fold, flat_map}
-use Rattle.ad_tree.specs.Signature.{of_literal}
+use Rattle.ad_locality.specs.Signature.{of_literal}
 use Rattle.ad_names.proofs.lists.take_literals.Given as goal
 
 abbrev pub invariant-loop-literal : goal.invariant-loop-literal

@@ -1,7 +1,7 @@
 -- What was taken, with what is left to take, is all.
 use Rattle.std.proofs.Common.{◌≡◌, drop, map}
 use Rattle.std.specs.List.{fold, flat_map}
-use Rattle.ad_tree.specs.Signature.{of_range}
+use Rattle.ad_locality.specs.Signature.{of_range}
 use Rattle.ad_names.proofs.ranges.+take_range.Given as goal
 
 abbrev pub invariant-intersection : goal.invariant-intersection

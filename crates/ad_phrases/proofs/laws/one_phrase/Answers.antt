@@ -9,6 +9,7 @@ use Rattle.ad_grammar.specs.Phrases.{SpellsRange, SpellsClass}
 use Rattle.ad_grammar.specs.Faults as form
 use Rattle.ad_phrases.proofs.Trees.{classes, ranges, properties, individuals, literals}
 use Rattle.ad_phrases.proofs.Once.{built_once, not_refused, refused_once}
+use Rattle.ad_phrases.proofs.Either.{built_either}
 use Rattle.ad_phrases.proofs.laws.one_phrase.Goals as goal
 
 pub returns : goal.returns
@@ -24,4 +25,9 @@ returns c = record {
   individual_is_built = not_refused form.individual Individual SpellsIndividual individuals;
   literal_is_built = not_refused form.literal Literal SpellsLiteral literals;
   refused = refused_once;
+  class_either = built_either form.class Class (SpellsClass false) classes;
+  range_either = built_either form.range Range SpellsRange ranges;
+  property_either = built_either form.property ObjProp SpellsProperty properties;
+  individual_either = built_either form.individual Individual SpellsIndividual individuals;
+  literal_either = built_either form.literal Literal SpellsLiteral literals;
 }

@@ -9,7 +9,7 @@ use Rattle.ad_grammar.specs.Phrases.{SpellsClass}
 use Rattle.ad_grammar.specs.Texts.{in_force}
 use Rattle.ad_grammar.specs.Faults.{IsLongest}
 use Rattle.ad_grammar.specs.Faults as form
-use Rattle.ad_build.specs.Declarations.{declarations}
+use Rattle.ad_prefixes.specs.Declarations.{declarations}
 use Rattle.ad_phrases.specs.Phrases.{IsBuilt}
 use Rattle.ad_phrases.proofs.Once.{all_built, all_refused}
 use Rattle.ad_phrases.proofs.Trees.{classes, tree_found, name_found, none_not_some, some_same}

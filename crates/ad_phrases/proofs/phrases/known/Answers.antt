@@ -1,6 +1,6 @@
 use Rattle.std.proofs.Common.{drop}
 use Rattle.ad_grammar.specs.Texts.{in_force}
-use Rattle.ad_build.specs.Declarations.{declarations}
+use Rattle.ad_prefixes.specs.Declarations.{declarations}
 use Rattle.ad_phrases.proofs.Trees.{all_known, one_unknown}
 use Rattle.ad_phrases.proofs.phrases.known.Goals as goal
 

@@ -1,7 +1,7 @@
 use Rattle.std.proofs.Common.{List, sym, ◌∙◌, subst}
 use Rattle.std.proofs.lemmas.Result.{err_from_is_err_and}
 use Rattle.ad_lex.specs.Spans.{AreTokensOf}
-use Rattle.ad_tree.specs.declared.entities.Entity.{Entity}
+use Rattle.ad_entity.specs.declared.entities.Entity.{Entity}
 use Rattle.ad_read.specs.Texts.{IsSeed}
 use Rattle.ad_grammar.specs.Texts.{SpellsSeed}
 use Rattle.ad_read.specs.declared.texts.whole.Whole.TheVariants.{Seed}

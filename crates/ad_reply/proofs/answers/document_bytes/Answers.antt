@@ -4,7 +4,7 @@ use Rattle.std.proofs.lemmas.List.{take_more, get_or-map, length-map}
 use Rattle.ad_tree.specs.declared.axioms.Noted.{Noted}
 use Rattle.ad_tree.specs.declared.edits.Op.{Op}
 use Rattle.ad_write.specs.Canonical.{canon, canon_document}
-use Rattle.ad_sweep.specs.OntologyModule.{axioms_of}
+use Rattle.ad_syntax_laws.specs.OntologyModule.{axioms_of}
 use Rattle.ad_reply.proofs.answers.document_bytes.Goals as goal
 
 pub loop-op-preserved : goal.loop-op-preserved

@@ -1,5 +1,5 @@
 use Rattle.ad_write.specs.Canonical.{canon_document}
-use Rattle.ad_sweep.specs.OntologyModule.{axioms_of}
+use Rattle.ad_syntax_laws.specs.OntologyModule.{axioms_of}
 use Rattle.ad_reply.proofs.AnswerLemmas.{answers_on, answers_front}
 use Rattle.ad_reply.proofs.answers.put_module.Goals as goal
 

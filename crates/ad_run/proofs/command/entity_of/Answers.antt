@@ -1,6 +1,6 @@
 use Rattle.std.proofs.Common.{◌≡◌, true, ap, ◌∙◌, subst}
 use Rattle.std.specs.Option.{unwrap_or}
-use Rattle.ad_tree.specs.declared.entities.EntityKind.TheVariants as kinds
+use Rattle.ad_entity.specs.declared.entities.EntityKind.TheVariants as kinds
 use Rattle.ad_run.specs.Words.{kind_in, is_iri_behind}
 use Rattle.std.specs.Prelude.{drop, length}
 use Rattle.ad_run.proofs.WordLemmas.{read_entity}

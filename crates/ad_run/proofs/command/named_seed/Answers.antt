@@ -2,7 +2,7 @@ use Rattle.std.proofs.Common.{◌≡◌, List, length, take, drop, map, sym, ◌
 use Rattle.std.proofs.lemmas.Result.{IfOk-weaker}
 use Rattle.std.specs.List.{AllByRecursion}
 use Rattle.std.proofs.lemmas.List.{take_all}
-use Rattle.ad_tree.specs.declared.entities.Entity.{Entity}
+use Rattle.ad_entity.specs.declared.entities.Entity.{Entity}
 use Rattle.ad_run.specs.Command.{IsSeedEntity, seed_word}
 use Rattle.ad_run.proofs.WordLemmas.{module_words}
 use Rattle.ad_run.proofs.command.named_seed.Goals as goal

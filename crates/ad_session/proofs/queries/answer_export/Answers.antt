@@ -8,9 +8,9 @@ use Rattle.ad_session.proofs.queries.answer_export.Goals as goal
 
 pub returns-in-Ok-clause-speaks : goal.returns-in-Ok-clause-speaks
 returns-in-Ok-clause-speaks g c depth i asked =
-    export_speaks depth _ _ _ _ _ i _ _ c.export_reply.result asked c.in-Ok.ensures.looks.0 c.in-Ok.ensures.looks.1 c.edition.ensures (c.in-Ok.ensures.shown refl) c.export_reply.ensures.bytes
+    export_speaks depth (g.L.Look.footing c.args.look.now) _ _ _ _ _ i _ _ c.export_reply.result asked (record { enters = c.in-Ok.ensures.looks.0; reaches = c.in-Ok.ensures.reaches refl; lapses = c.in-Ok.ensures.looks.1 }) c.edition.ensures (c.in-Ok.ensures.shown refl) c.export_reply.ensures.bytes
 
 pub returns-in-Err-clause-speaks : goal.returns-in-Err-clause-speaks
 returns-in-Err-clause-speaks g c depth i asked =
-    refused_speaks depth c.in-Err.cause requests.Export _ _ i _ _ c.refuse.result asked tt c.in-Err.ensures.looks
+    refused_speaks depth (g.L.Look.footing c.args.look.now) c.in-Err.cause requests.Export _ _ i _ _ c.refuse.result asked tt c.in-Err.ensures.looks
     (subst (λ (r : Refusal). Puts (g.K.Sink.written c.args.sink.now) (g.K.Sink.written c.refuse.new.sink) c.refuse.result (reply_bytes (refused r))) c.refusal_of.ensures c.refuse.ensures.bytes)

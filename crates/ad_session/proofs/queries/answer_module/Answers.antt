@@ -15,4 +15,4 @@ returns-in-Ok-clause-speaks g c i n asked payload =
 pub returns-in-Err-clause-speaks : goal.returns-in-Err-clause-speaks
 returns-in-Err-clause-speaks g c i n asked payload =
     let depth = c.args.limits.now.depth in
-    unread_speaks depth (requests.Module kinds.Bottom n) c.in-Err.cause _ i _ _ c.refuse.result asked tt (subst (λ (bytes : List ℕ). Refuses forms.seed depth bytes c.in-Err.cause) (sym payload) c.in-Err.ensures.refused) c.refuse.ensures.bytes
+    unread_speaks depth (g.L.Look.footing c.args.look.now) (requests.Module kinds.Bottom n) c.in-Err.cause _ i _ _ c.refuse.result asked tt (subst (λ (bytes : List ℕ). Refuses forms.seed depth bytes c.in-Err.cause) (sym payload) c.in-Err.ensures.refused) c.refuse.ensures.bytes

@@ -1,45 +1,80 @@
--- By the lemmas on rounds.
-use Rattle.std.proofs.Common.{◌≡◌, arith, ◌∙◌, sym, ap, subst, length}
-use Rattle.ad_core.specs.State.{State}
+-- By the lemmas on rounds and on runs.
+use Rattle.std.proofs.Common.{◌≡◌, ◌<◌, ◌≤◌, arith, ◌∙◌, sym, ap, subst, refl}
+use Rattle.ad_base.specs.declared.limits.Limits.{Limits}
+use Rattle.ad_edition.specs.State.{State, IsMachine, after_attend, entered_by}
+use Rattle.ad_edition.specs.Sight.{IsFront}
+use Rattle.ad_items.specs.Items.{bounds_of}
 use Rattle.ad_session.specs.declared.work.Talk.{Talk}
 use Rattle.ad_session.specs.Flows.{flow}
-use Rattle.ad_session.specs.Rounds.{KeepsOthers}
-use Rattle.ad_session.proofs.RoundLemmas.{RoundsSo, rounds_none, rounds_more, rounds_end}
-use Rattle.ad_session.proofs.StateLemmas.{keeps_on, keeps_itself, keeps_length, round_at, session_at}
+use Rattle.ad_session.specs.Machines.{MachineAnswers}
+use Rattle.ad_session.proofs.PassLemmas.{run_limits, run_session, run_others, run_grows}
+use Rattle.ad_session.proofs.RoundLemmas.{RoundsSo, rounds_none, rounds_more_in, rounds_end_in, round_within}
+use Rattle.ad_session.proofs.StateLemmas.{session_from}
 use Rattle.ad_session.proofs.sessions.session.Goals as goal
 
 pub rounds-init : goal.rounds-init
 rounds-init g c =
     let none : c.new-answered.result.answered ≡ 0 = ap (λ (t : Talk). t.answered) c.new-answered.ensures in
     let first = flow (g.S.Source.left c.args.source.now) (g.S.Source.faults c.args.source.now) (g.K.Sink.written c.args.sink.now) (g.K.Sink.faults c.args.sink.now) in
+    let machine = c.attend.new.self in
     record {
-      so = subst (λ n. RoundsSo c.attend.new.self.limits c.args.index n first first c.attend.new.self.log c.attend.new.self.log) (sym none) (rounds_none c.attend.new.self.limits c.args.index first c.attend.new.self.log);
+      so = subst (λ n. RoundsSo MachineAnswers (bounds_of machine.limits) n first first machine machine) (sym none) (rounds_none MachineAnswers (bounds_of machine.limits) first machine);
+      is = c.laws.ensures;
       chair = ap (λ (t : Talk). t.chair) c.new-answered.ensures;
       looks = ap (λ (m : State). m.session) c.attend.ensures;
-      index = let same : length c.attend.new.self.entered ≡ length c.args.machine.now.entered = ap (λ (m : State). length m.entered) c.attend.ensures in omega (arith, c.requires);
-      others = keeps_itself c.args.index c.attend.new.self;
+      work = refl;
       reads = omega arith;
       writes = omega arith;
     }
 
+-- what the machine's session can't change
+pub take_round-requires : goal.take_round-requires
+take_round-requires g c =
+    let so = c.rounds.invariant in
+    record { looks = run_session c.attend.new.self c.rounds.machine so.so.items so.so.replies so.so.run ∙ so.looks ∙ sym so.chair }
+
+pub rounds-smaller : goal.rounds-smaller
+rounds-smaller g c =
+    let so = c.rounds.invariant in
+    let limits : c.rounds.machine.limits ≡ c.attend.new.self.limits = run_limits c.attend.new.self c.rounds.machine so.so.items so.so.replies so.so.run in
+    let within = round_within MachineAnswers (bounds_of c.rounds.machine.limits) c.rounds.answered.answered c.take_round.new.answered.answered _ _ _ _ c.in-None.ensures.round in
+    let more : c.rounds.answered.answered < c.take_round.new.answered.answered = within.0 in
+    let few : c.take_round.new.answered.answered ≤ c.attend.new.self.limits.requests = subst (λ (l : Limits). c.take_round.new.answered.answered ≤ l.requests) limits within.1 in
+    omega (arith, more, few)
+
 pub rounds-preserved : goal.rounds-preserved
 rounds-preserved g c =
     let so = c.rounds.invariant in
-    let round = round_at c.rounds.machine.limits c.attend.new.self.limits c.rounds.answered.chair c.args.index _ _ _ _ _ _ _ so.others.limits so.chair c.in-None.ensures.round in
-    let others = keeps_on c.args.index c.attend.new.self c.rounds.machine c.take_round.new.machine so.others (subst (λ n. KeepsOthers n c.rounds.machine c.take_round.new.machine) so.chair c.take_round.ensures.others) in
+    let machine = c.attend.new.self in
+    let limits = run_limits machine c.rounds.machine so.so.items so.so.replies so.so.run in
     record {
-      so = rounds_more c.attend.new.self.limits c.args.index c.rounds.answered.answered c.take_round.new.answered.answered _ _ _ _ _ _ so.so round;
+      so = rounds_more_in MachineAnswers (bounds_of machine.limits) (bounds_of c.rounds.machine.limits) c.rounds.answered.answered c.take_round.new.answered.answered _ _ _ machine c.rounds.machine c.take_round.new.machine (ap bounds_of limits) so.so c.in-None.ensures.round;
+      is = so.is;
       chair = c.take_round.ensures.chair ∙ so.chair;
-      looks = c.take_round.ensures.looks ∙ so.looks;
-      index = let same : length c.take_round.new.machine.entered ≡ length c.rounds.machine.entered = keeps_length c.rounds.answered.chair c.rounds.machine c.take_round.new.machine c.take_round.ensures.others in omega (arith, so.index);
-      others = others;
+      looks = so.looks;
+      work = c.take_round.ensures.work ∙ so.work;
       reads = omega (arith, so.reads, c.take_round.ensures.reads);
       writes = omega (arith, so.writes, c.take_round.ensures.writes);
     }
 
-pub returns-in-Some-clause-session : goal.returns-in-Some-clause-session
-returns-in-Some-clause-session g c =
+pub returns-in-Some : goal.returns-in-Some
+returns-in-Some g c =
     let so = c.rounds.invariant in
-    let round = round_at c.rounds.machine.limits c.attend.new.self.limits c.rounds.answered.chair c.args.index _ _ _ _ _ _ _ so.others.limits so.chair c.in-Some.ensures.round in
-    session_at c.attend.new.self.limits c.args.machine.now.limits c.args.index c.in-Some.end _ _ c.attend.new.self.log c.args.machine.now.log c.take_round.new.machine.log (ap (λ (m : State). m.limits) c.attend.ensures) (ap (λ (m : State). m.log) c.attend.ensures)
-    (rounds_end c.attend.new.self.limits c.args.index c.rounds.answered.answered c.take_round.new.answered.answered c.in-Some.end _ _ _ _ _ _ so.so so.reads so.writes round)
+    let machine = c.attend.new.self in
+    let given = after_attend c.args.machine.now c.args.index in
+    let limits = run_limits machine c.rounds.machine so.so.items so.so.replies so.so.run in
+    let whole = rounds_end_in MachineAnswers (bounds_of machine.limits) (bounds_of c.rounds.machine.limits) c.rounds.answered.answered c.take_round.new.answered.answered c.in-Some.end _ _ _ machine c.rounds.machine c.take_round.new.machine (ap bounds_of limits) so.so so.reads so.writes c.in-Some.ensures.round in
+    let session = session_from machine given c.take_round.new.machine c.in-Some.end _ _ c.attend.ensures whole in
+    let at = run_session given c.take_round.new.machine session.items session.replies session.run in
+    let others = run_others given c.take_round.new.machine session.items session.replies session.run in
+    record {
+      session = session;
+      entered =
+          subst (λ k. IsFront (entered_by c.args.machine.now c.args.index) (entered_by c.take_round.new.machine k)) at
+          (run_grows given c.take_round.new.machine session.items session.replies (subst IsMachine c.attend.ensures so.is) session.run);
+      others = record { limits = others.limits; others = others.others };
+      looks = at;
+      work = c.take_round.ensures.work ∙ so.work;
+      reads = omega (arith, so.reads, c.take_round.ensures.reads);
+      writes = omega (arith, so.writes, c.take_round.ensures.writes);
+    }

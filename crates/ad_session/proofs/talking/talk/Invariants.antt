@@ -7,10 +7,11 @@ use Rattle.ad_session.proofs.talking.talk.Given as goal
 
 abbrev pub invariant-turns : goal.invariant-turns
 invariant-turns g l = record {
-  so : TalkedSo (bounds_of l.limits) l.limits.depth l.initial.talk.answered l.talk.answered (flow (g.S.Source.left l.initial.source) (g.S.Source.faults l.initial.source) (g.K.Sink.written l.initial.sink) (g.K.Sink.faults l.initial.sink)) (flow (g.S.Source.left l.source) (g.S.Source.faults l.source) (g.K.Sink.written l.sink) (g.K.Sink.faults l.sink)) (g.L.Look.sight l.initial.look) (g.L.Look.sight l.look);
+  so : TalkedSo (bounds_of l.limits) l.limits.depth (g.L.Look.footing l.initial.look) l.initial.talk.answered l.talk.answered (flow (g.S.Source.left l.initial.source) (g.S.Source.faults l.initial.source) (g.K.Sink.written l.initial.sink) (g.K.Sink.faults l.initial.sink)) (flow (g.S.Source.left l.source) (g.S.Source.faults l.source) (g.K.Sink.written l.sink) (g.K.Sink.faults l.sink)) (g.L.Look.sight l.initial.look) (g.L.Look.sight l.look);
   chair : l.talk.chair ≡ l.initial.talk.chair;
   footing : g.L.Look.footing l.look ≡ g.L.Look.footing l.initial.look;
   limits : g.L.Look.limits l.look ≡ g.L.Look.limits l.initial.look;
+  work : l.work.limits ≡ l.initial.work.limits;
   reads : g.S.Source.faults l.initial.source ≤ g.S.Source.faults l.source;
   writes : g.K.Sink.faults l.initial.sink ≤ g.K.Sink.faults l.sink;
 }

@@ -1,7 +1,7 @@
 use Rattle.std.proofs.Common.{◌≡◌, ◌<◌, ◌+◌, true, length, map, vec_len, set, sym, subst, ap, ◌∙◌, arith}
 use Rattle.std.proofs.lemmas.List.{length-map}
 use Rattle.ad_names.specs.Names.{is_member}
-use Rattle.ad_sweep.specs.ModuleDocument.{goes_with}
+use Rattle.ad_syntax_laws.specs.ModuleDocument.{goes_with}
 use Rattle.ad_sweep.proofs.CarriedMarkLemmas.{IsMarkedBelow, IsLeftFrom, marked_more, marked_same, left_more, left_same}
 use Rattle.ad_sweep.proofs.SeenLemmas.{noted_at}
 use Rattle.ad_sweep.proofs.carried.mark_carried.Goals.{then-goes_with, else-goes_with}

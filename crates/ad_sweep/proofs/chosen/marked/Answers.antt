@@ -1,7 +1,7 @@
 use Rattle.std.proofs.Common.{◌≡◌, ◌+◌, ◌++◌, drop, get_or, map, ap, ◌∙◌, arith}
 use Rattle.std.proofs.lemmas.Grind.{common_steps}
 use Rattle.ad_theory.specs.Sweep.{chosen}
-use Rattle.ad_sweep.specs.OntologyModule.{axioms_of}
+use Rattle.ad_syntax_laws.specs.OntologyModule.{axioms_of}
 use Rattle.ad_sweep.proofs.ChosenLemmas.{chosen_more}
 use Rattle.ad_sweep.proofs.chosen.marked.Goals as goal
 

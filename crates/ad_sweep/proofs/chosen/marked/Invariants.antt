@@ -1,7 +1,7 @@
 -- What was found so far, with the marked axioms that are left, is all that are marked.
 use Rattle.std.proofs.Common.{◌≡◌, ◌++◌, drop, map}
 use Rattle.ad_theory.specs.Sweep.{chosen}
-use Rattle.ad_sweep.specs.OntologyModule.{AreAdditions, axioms_of}
+use Rattle.ad_syntax_laws.specs.OntologyModule.{AreAdditions, axioms_of}
 use Rattle.ad_sweep.proofs.chosen.marked.Given as goal
 
 abbrev pub invariant-loop-k : goal.invariant-loop-k

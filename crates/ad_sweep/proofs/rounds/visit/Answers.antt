@@ -1,12 +1,12 @@
 use Rattle.std.proofs.Common.{◌≡◌, IsFalse, get_or, map, true, sym, subst, ◌∙◌, arith}
 use Rattle.std.proofs.lemmas.List.{length-map}
 use Rattle.std.proofs.lemmas.Grind.{common_steps}
-use Rattle.ad_tree.specs.Signature.{occurrences}
+use Rattle.ad_locality.specs.Signature.{occurrences}
 use Rattle.ad_theory.proofs.SweepLemmas.{takes, unmarked-set}
 use Rattle.ad_syntax_laws.specs.OntologyLogic.{axiom_logic}
 use Rattle.ad_syntax_laws.proofs.LocalityLemmas.{antitone}
 use Rattle.std.specs.List.{fold}
-use Rattle.ad_tree.specs.Locality.{local}
+use Rattle.ad_locality.specs.Locality.{local}
 use Rattle.ad_names.specs.Names.{is_member, with_entity}
 use Rattle.ad_sweep.proofs.SeenLemmas.{also_taken, noted_at}
 use Rattle.ad_sweep.proofs.rounds.visit.Goals as goal

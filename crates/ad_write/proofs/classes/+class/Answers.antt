@@ -9,10 +9,10 @@ use Rattle.ad_write.proofs.Texts.{closed, closed_one, closed_gap, closed_three, 
 use Rattle.ad_write.proofs.classes.+class.Goals as goal
 
 pub one_class-returns : goal.one_class-returns
-one_class-returns g t c = three g.P.Pen.writes g.met.P.Pen.joins c.begin.ensures.written c.write_class.ensures c.put.ensures (closed_one c.args.word.now (canon_class c.args.operand.now))
+one_class-returns g t c = three g.P.Pen.writes g.met.P.Pen.joins c.begin.ensures.written (rw c.get.ensures at c.write_class.ensures) c.put.ensures (closed_one c.args.word.now (canon_class c.args.operand.now))
 
 pub all_classes-returns : goal.all_classes-returns
-all_classes-returns g t c = three g.P.Pen.writes g.met.P.Pen.joins c.begin-first.ensures.written c.write_classes.ensures c.put.ensures (closed c.args.word.now [] (map canon_class c.args.operands.now) c.begin-first.result c.begin-first.ensures.first)
+all_classes-returns g t c = three g.P.Pen.writes g.met.P.Pen.joins c.begin-first.ensures.written (rw c.as_slice.ensures at c.write_classes.ensures) c.put.ensures (closed c.args.word.now [] (map canon_class c.args.operands.now) c.begin-first.result c.begin-first.ensures.first)
 
 pub write_classes-loop-class-preserved : goal.write_classes-loop-class-preserved
 write_classes-loop-class-preserved g t c = record {
@@ -21,7 +21,7 @@ write_classes-loop-class-preserved g t c = record {
 }
 
 pub filled-returns : goal.filled-returns
-filled-returns g t c = five g.P.Pen.writes g.met.P.Pen.joins c.begin-first.ensures.written c.argument.ensures c.separate.ensures c.write_class.ensures c.put.ensures (closed_gap c.args.word.now [] (canon_property c.args.property.now) (canon_class c.args.filler.now) c.begin-first.result c.begin-first.ensures.first)
+filled-returns g t c = five g.P.Pen.writes g.met.P.Pen.joins c.begin-first.ensures.written c.argument.ensures c.separate.ensures (rw c.get.ensures at c.write_class.ensures) c.put.ensures (closed_gap c.args.word.now [] (canon_property c.args.property.now) (canon_class c.args.filler.now) c.begin-first.result c.begin-first.ensures.first)
 
 pub counted-returns : goal.counted-returns
 counted-returns g t c = five g.P.Pen.writes g.met.P.Pen.joins c.begin-first.ensures.written c.argument.ensures c.argument-2.ensures c.write_filler.ensures c.put.ensures (closed_three c.args.word.now [] (decimal c.args.number.now) (canon_property c.args.property.now) (option_to_list (option_map canon_class c.args.filler.now)) c.begin-first.result c.begin-first.ensures.first)
@@ -30,22 +30,22 @@ pub write_class-returns-in-Named : goal.write_class-returns-in-Named
 write_class-returns-in-Named g t c = rw (c.in-Named.is, eq.canon_class-named) c.write.ensures
 
 pub write_class-returns-in-And : goal.write_class-returns-in-And
-write_class-returns-in-And g t c = rw (c.in-And.is, eq.canon_class-intersection) (rw c.as_slice.ensures at c.all_classes.ensures)
+write_class-returns-in-And g t c = rw (c.in-And.is, eq.canon_class-intersection) c.all_classes.ensures
 
 pub write_class-returns-in-Or : goal.write_class-returns-in-Or
-write_class-returns-in-Or g t c = rw (c.in-Or.is, eq.canon_class-union) (rw c.as_slice-in-Or.ensures at c.all_classes-in-Or.ensures)
+write_class-returns-in-Or g t c = rw (c.in-Or.is, eq.canon_class-union) c.all_classes-in-Or.ensures
 
 pub write_class-returns-in-Not : goal.write_class-returns-in-Not
-write_class-returns-in-Not g t c = rw (c.in-Not.is, eq.canon_class-complement) (rw c.get.ensures at c.one_class.ensures)
+write_class-returns-in-Not g t c = rw (c.in-Not.is, eq.canon_class-complement) c.one_class.ensures
 
 pub write_class-returns-in-OneOf : goal.write_class-returns-in-OneOf
-write_class-returns-in-OneOf g t c = rw (c.in-OneOf.is, eq.canon_class-one_of) (rw c.as_slice-in-OneOf.ensures at c.list.ensures)
+write_class-returns-in-OneOf g t c = rw (c.in-OneOf.is, eq.canon_class-one_of) c.list.ensures
 
 pub write_class-returns-in-ObjSome : goal.write_class-returns-in-ObjSome
-write_class-returns-in-ObjSome g t c = rw (c.in-ObjSome.is, eq.canon_class-some) (rw c.get-in-ObjSome.ensures at c.filled.ensures)
+write_class-returns-in-ObjSome g t c = rw (c.in-ObjSome.is, eq.canon_class-some) c.filled.ensures
 
 pub write_class-returns-in-ObjAll : goal.write_class-returns-in-ObjAll
-write_class-returns-in-ObjAll g t c = rw (c.in-ObjAll.is, eq.canon_class-all) (rw c.get-in-ObjAll.ensures at c.filled-in-ObjAll.ensures)
+write_class-returns-in-ObjAll g t c = rw (c.in-ObjAll.is, eq.canon_class-all) c.filled-in-ObjAll.ensures
 
 pub write_class-returns-in-ObjValue : goal.write_class-returns-in-ObjValue
 write_class-returns-in-ObjValue g t c = rw (c.in-ObjValue.is, eq.canon_class-value) c.two.ensures

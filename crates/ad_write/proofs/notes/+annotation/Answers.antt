@@ -13,7 +13,7 @@ pub write_annotation-returns : goal.write_annotation-returns
 write_annotation-returns g t c =
     let note = out-Annotation c.args.note.now in
     let notes = c.as_slice-notes.result.now in
-    five g.P.Pen.writes g.met.P.Pen.joins c.put.ensures c.write_annotations.ensures c.argument.ensures c.argument-2.ensures c.put-2.ensures
+    five g.P.Pen.writes g.met.P.Pen.joins c.open.ensures c.write_annotations.ensures c.argument.ensures c.argument-2.ensures c.put.ensures
     (closed_two kw.Annotation (map canon_annotation notes) (canon_iri note.property) (canon_value note.value ∷ []) c.is_empty.result (c.is_empty.ensures ∙ empty_if canon_annotation notes)
     ∙ ap (λ (ns : List Annotation). compound kw.Annotation (map canon_annotation ns ++ canon_iri note.property ∷ canon_value note.value ∷ [])) c.as_slice-notes.ensures
     ∙ sym (canon_annotation-out c.args.note.now))

@@ -7,10 +7,10 @@ use Rattle.ad_write.proofs.Texts.{closed, closed_one, behind_more_gap, later_mor
 use Rattle.ad_write.proofs.ranges.+range.Goals as goal
 
 pub one_range-returns : goal.one_range-returns
-one_range-returns g t c = three g.P.Pen.writes g.met.P.Pen.joins c.begin.ensures.written c.write_range.ensures c.put.ensures (closed_one c.args.word.now (canon_range c.args.operand.now))
+one_range-returns g t c = three g.P.Pen.writes g.met.P.Pen.joins c.begin.ensures.written (rw c.get.ensures at c.write_range.ensures) c.put.ensures (closed_one c.args.word.now (canon_range c.args.operand.now))
 
 pub all_ranges-returns : goal.all_ranges-returns
-all_ranges-returns g t c = three g.P.Pen.writes g.met.P.Pen.joins c.begin-first.ensures.written c.write_ranges.ensures c.put.ensures (closed c.args.word.now [] (map canon_range c.args.operands.now) c.begin-first.result c.begin-first.ensures.first)
+all_ranges-returns g t c = three g.P.Pen.writes g.met.P.Pen.joins c.begin-first.ensures.written (rw c.as_slice.ensures at c.write_ranges.ensures) c.put.ensures (closed c.args.word.now [] (map canon_range c.args.operands.now) c.begin-first.result c.begin-first.ensures.first)
 
 pub write_ranges-loop-range-preserved : goal.write_ranges-loop-range-preserved
 write_ranges-loop-range-preserved g t c = record {
@@ -22,16 +22,16 @@ pub write_range-returns-in-Named : goal.write_range-returns-in-Named
 write_range-returns-in-Named g t c = rw (c.in-Named.is, eq.canon_range-named) c.write.ensures
 
 pub write_range-returns-in-And : goal.write_range-returns-in-And
-write_range-returns-in-And g t c = rw (c.in-And.is, eq.canon_range-intersection) (rw c.as_slice.ensures at c.all_ranges.ensures)
+write_range-returns-in-And g t c = rw (c.in-And.is, eq.canon_range-intersection) c.all_ranges.ensures
 
 pub write_range-returns-in-Or : goal.write_range-returns-in-Or
-write_range-returns-in-Or g t c = rw (c.in-Or.is, eq.canon_range-union) (rw c.as_slice-in-Or.ensures at c.all_ranges-in-Or.ensures)
+write_range-returns-in-Or g t c = rw (c.in-Or.is, eq.canon_range-union) c.all_ranges-in-Or.ensures
 
 pub write_range-returns-in-Not : goal.write_range-returns-in-Not
-write_range-returns-in-Not g t c = rw (c.in-Not.is, eq.canon_range-complement) (rw c.get.ensures at c.one_range.ensures)
+write_range-returns-in-Not g t c = rw (c.in-Not.is, eq.canon_range-complement) c.one_range.ensures
 
 pub write_range-returns-in-OneOf : goal.write_range-returns-in-OneOf
-write_range-returns-in-OneOf g t c = rw (c.in-OneOf.is, eq.canon_range-one_of) (rw c.as_slice-in-OneOf.ensures at c.list.ensures)
+write_range-returns-in-OneOf g t c = rw (c.in-OneOf.is, eq.canon_range-one_of) c.list.ensures
 
 pub write_range-returns-in-Restriction : goal.write_range-returns-in-Restriction
-write_range-returns-in-Restriction g t c = rw (c.in-Restriction.is, eq.canon_range-restriction) (rw c.as_slice-in-Restriction.ensures at c.one_and_list.ensures)
+write_range-returns-in-Restriction g t c = rw (c.in-Restriction.is, eq.canon_range-restriction) c.one_and_list.ensures

@@ -6,4 +6,4 @@ use Rattle.ad_write.proofs.Texts.{closed}
 use Rattle.ad_write.proofs.shapes.list.Goals as goal
 
 pub returns : goal.returns
-returns g c = three g.P.Pen.writes g.met.P.Pen.joins c.begin-first.ensures.written c.arguments.ensures c.put.ensures (closed c.args.word.now (map canon_annotation c.args.notes.now) (map g.A.Spelled.spelling c.args.items.now) c.begin-first.result c.begin-first.ensures.first)
+returns g c = three g.P.Pen.writes g.met.P.Pen.joins c.begin-first.ensures.written (rw c.as_slice.ensures at c.arguments.ensures) c.put.ensures (closed c.args.word.now (map canon_annotation c.args.notes.now) (map g.A.Spelled.spelling c.args.items.now) c.begin-first.result c.begin-first.ensures.first)

@@ -10,5 +10,5 @@ pub returns : goal.returns
 returns g c =
     let axioms = c.args.axioms.now in
     let all : take c.loop-each.each-index axioms ≡ axioms = take_all c.loop-each.each-index axioms c.loop-each-test.false in
-    three g.P.Pen.writes g.met.P.Pen.joins c.put.ensures c.loop-each.invariant c.put-2.ensures
+    three g.P.Pen.writes g.met.P.Pen.joins c.put_head.ensures c.loop-each.invariant c.put_foot.ensures
     (ap (λ (xs : _). (document_head ++ flat_map canon_line (map g.A.Lent.lent xs)) ++ document_foot) all ∙ append_assoc document_head (flat_map canon_line (map g.A.Lent.lent axioms)) document_foot)

@@ -3,7 +3,7 @@ use Rattle.std.proofs.Common.{◌≡◌, ◌<◌, List, Option, None, Some, leng
 use Rattle.std.specs.Option.{option_map}
 use Rattle.std.specs.Arc.{arc_value}
 use Rattle.ad_edition.specs.Edition.{Held}
-use Rattle.ad_core.specs.State.{State, after_enter}
+use Rattle.ad_edition.specs.State.{State, after_enter}
 use Rattle.ad_core.specs.Kept.{editions_in, waiting_in, numbers_of, IsKept}
 use Rattle.ad_core.proofs.KeptLemmas.{IsKept-enter, waits_newest, numbers_of-enter, numbers_of-still}
 use Rattle.ad_core.proofs.OwnersLemmas.{length-numbers_of, length-editions_in, length-waiting_in, waiting_at, editions_in-set, waiting_in-set}

@@ -1,6 +1,6 @@
 -- The type keeps it.
 use Rattle.std.proofs.Common.{◌≡◌, length, ◌∙◌, sym, subst, arith}
-use Rattle.ad_core.specs.State.{IsMachine}
+use Rattle.ad_edition.specs.State.{IsMachine}
 use Rattle.ad_core.specs.Kept.{editions_in, numbers_of}
 use Rattle.ad_core.proofs.OwnersLemmas.{length-numbers_of, length-editions_in}
 use Rattle.ad_core.proofs.machine.Machine.newest.Goals as goal

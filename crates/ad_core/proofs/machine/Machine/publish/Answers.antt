@@ -2,7 +2,7 @@
 use Rattle.std.proofs.Common.{◌≡◌, ◌+◌, ◌<◌, ◌≤◌, ◌∷◌, ◌++◌, [], length, ap, sym, ◌∙◌, subst, arith}
 use Rattle.std.specs.Arc.{arc_value}
 use Rattle.ad_edition.specs.Edition.{Held, next_edition}
-use Rattle.ad_core.specs.State.{State, newest_of}
+use Rattle.ad_edition.specs.State.{State, newest_of}
 use Rattle.ad_core.specs.Kept.{editions_in, waiting_in, numbers_of}
 use Rattle.ad_core.proofs.EditionsLemmas.{edition_is}
 use Rattle.ad_core.proofs.KeptLemmas.{edits_below, newest_number, IsKept-publish}

@@ -2,7 +2,7 @@
 use Rattle.std.proofs.Common.{◌≡◌, ◌<◌, length, take, get_or, sym, ◌∙◌, subst, arith}
 use Rattle.std.specs.Arc.{arc_value}
 use Rattle.ad_edition.specs.Edition.{Held, IsEditionOf}
-use Rattle.ad_core.specs.State.{State, entered_by}
+use Rattle.ad_edition.specs.State.{State, entered_by}
 use Rattle.ad_core.specs.Kept.{editions_in, numbers_of}
 use Rattle.ad_core.proofs.OwnersLemmas.{edition_at, length-numbers_of}
 use Rattle.ad_core.proofs.machine.Machine.seen.Goals as goal

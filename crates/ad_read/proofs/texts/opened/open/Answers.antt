@@ -1,6 +1,6 @@
 use Rattle.std.proofs.Common.{sym, subst}
 use Rattle.ad_lex.specs.Spans.{AreTokensOf}
-use Rattle.ad_build.specs.Phrased.{IsTwiceAt}
+use Rattle.ad_prefixes.specs.Phrased.{IsTwiceAt}
 use Rattle.ad_read.proofs.Opening.{weaker_ok, weaker_err, unknown_refused, twice_refused, twice_of}
 use Rattle.ad_read.proofs.texts.opened.open.Goals as goal
 

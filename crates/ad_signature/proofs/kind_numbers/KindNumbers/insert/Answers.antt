@@ -1,4 +1,4 @@
-use Rattle.std.proofs.Common.{◌≡◌, None, ◌∷◌, [], ◌++◌, sym, ap, ◌∙◌, subst}
+use Rattle.std.proofs.Common.{◌≡◌, None, ◌∷◌, [], ◌++◌, ap, ◌∙◌}
 use Rattle.std.specs.Map.{lookup}
 use Rattle.ad_base.specs.Words.{same_text}
 use Rattle.indexmap.proofs.CallerLemmas.{insert_entry-new}

@@ -1,4 +1,4 @@
-use Rattle.std.proofs.Common.{◌≡◌, ◌++◌, [], List, ℕ, length, sym, ap, ◌∙◌, subst, arith}
+use Rattle.std.proofs.Common.{◌≡◌, ◌++◌, length, sym, ap, ◌∙◌, subst, arith}
 use Rattle.ad_signature.specs.Numbering.{number_in, count}
 use Rattle.ad_signature.proofs.SpareLemmas.{IsKept}
 use Rattle.ad_signature.proofs.symbols.Symbols.copy.Goals as goal

@@ -1,7 +1,4 @@
-use Rattle.std.proofs.Common.{◌≡◌, ◌≢◌, ◌<◌, ◌≤◌, ◌+◌, ℕ, cond, Some, IsTrue, length, sym, ap, ◌∙◌, subst, arith}
-use Rattle.ad_tree.specs.Entities.{same_entity}
-use Rattle.ad_tree.specs.declared.entities.Entity.{Entity}
-use Rattle.ad_syntax_laws.proofs.EntityLemmas.{same_entity_refl}
+use Rattle.std.proofs.Common.{sym, subst, arith}
 use Rattle.ad_signature.specs.Numbering.{number_in, count}
 use Rattle.ad_signature.specs.Spare.{IsTaken}
 use Rattle.ad_signature.proofs.SpareLemmas.{IsKept, given, given_below, was_unused, counted_given, within_given, next_given}

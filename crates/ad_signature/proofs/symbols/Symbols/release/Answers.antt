@@ -1,6 +1,5 @@
-use Rattle.std.proofs.Common.{◌≡◌, ◌∷◌, [], ◌++◌, ℕ, IsTrue, List, sym, ap, ◌∙◌, subst, arith, length-append, length}
-use Rattle.ad_tree.specs.declared.entities.Entity.{Entity}
-use Rattle.ad_signature.specs.Numbering.{number_in, count}
+use Rattle.std.proofs.Common.{◌∷◌, [], sym, ap, subst, arith, length-append, length}
+use Rattle.ad_signature.specs.Numbering.{number_in}
 use Rattle.ad_signature.proofs.SpareLemmas.{IsKept, released}
 use Rattle.ad_signature.proofs.symbols.Symbols.release.Goals as goal
 

@@ -1,4 +1,4 @@
-use Rattle.std.proofs.Common.{IsTrue, sym, ◌∙◌}
+use Rattle.std.proofs.Common.{sym, ◌∙◌}
 use Rattle.ad_tree.proofs.Equality.{noted_eq-is}
 use Rattle.ad_tree.proofs.axioms.Noted.same.Goals as goal
 

@@ -1,0 +1,4 @@
+pub mod Declarations
+pub mod Heads
+pub mod Phrased
+pub mod Unknown

@@ -1,0 +1,138 @@
+//! Sessions under limits below the standard ones.
+ghost use Rattle.ad_base.specs.Limits.{AreWithinStandard};
+
+use ad_base::{Limits, Memory};
+use ad_core::Machine;
+use ad_io::{SureSink, SureSource};
+use ad_session::{End, Work, session};
+use std::alloc::Global;
+use std::process::Abort;
+use std::test::Fail;
+
+const THREE: &str =
+    "EDIT 75\n+SubClassOf(<u:A> <u:B>)\n+SubClassOf(<u:B> <u:C>)\n+SubClassOf(<u:C> <u:D>)\n";
+
+const EMPTY: &str = "OK 0 12\nOntology(\n)\n";
+
+/// How a session of the machine over this input ends, whose replies are kept.
+fn end_of(
+    alloc: Global,
+    machine: &mut Machine,
+    input: &str,
+    sink: &mut SureSink,
+) -> Result<End, Memory> {
+    let limits = machine.limits();
+    let mut work = Work::new(alloc, &limits)?;
+    let mut source = SureSource::new(Vec::from_slice(alloc, input.as_bytes())?);
+    if machine.sessions() == 1 {
+        Ok(session(alloc, &mut source, sink, machine, 0, &mut work))
+    } else {
+        Err(Memory)
+    }
+}
+
+/// Whether a session over a new machine with these limits answers the input so, and ends so.
+fn answers(
+    alloc: Global,
+    limits: Limits,
+    input: &str,
+    replies: &str,
+    end: End,
+) -> Result<bool, Memory>
+    requires { AreWithinStandard limits }
+{
+    let mut machine = Machine::new(alloc, limits, 1, 1)?;
+    let mut sink = SureSink::new(alloc, 4096)?;
+    let found = end_of(alloc, &mut machine, input, &mut sink)?;
+    Ok(found == end && sink.bytes() == replies.as_bytes())
+}
+
+fn expect(
+    rt: &impl Abort,
+    alloc: Global,
+    limits: Limits,
+    input: &str,
+    replies: &str,
+    end: End,
+) -> Result<(), Fail>
+    requires { AreWithinStandard limits }
+{
+    assert!(rt; answers(alloc, limits, input, replies, end)?, "{input}");
+    Ok(())
+}
+
+#[test]
+fn axioms(rt: HostRuntime) -> Result<(), Fail> {
+    let mut limits = Limits::standard();
+    limits.axioms = 2;
+    let refused = "NO 30 0 axioms 3\n";
+    expect(&rt, rt.alloc(), limits, THREE, refused, End::Closed)?;
+    // Axioms are looked at first.
+    limits.editions = 0;
+    expect(&rt, rt.alloc(), limits, THREE, refused, End::Closed)
+}
+
+#[test]
+fn no_axiom(rt: HostRuntime) -> Result<(), Fail> {
+    let mut limits = Limits::standard();
+    limits.axioms = 0;
+    let input = "EDIT 24\n+SubClassOf(<u:A> <u:B>)";
+    expect(
+        &rt,
+        rt.alloc(),
+        limits,
+        input,
+        "NO 30 0 axioms 1\n",
+        End::Closed,
+    )
+}
+
+#[test]
+fn editions(rt: HostRuntime) -> Result<(), Fail> {
+    let mut limits = Limits::standard();
+    limits.editions = 1;
+    let input = "EDIT 25\n+SubClassOf(<u:A> <u:B>)\nEDIT 0\n";
+    let replies = "OK 1 37\nadded 1 already 0 removed 0 absent 0\nNO 30 1 editions 2\n";
+    expect(&rt, rt.alloc(), limits, input, replies, End::Closed)
+}
+
+#[test]
+fn requests(rt: HostRuntime) -> Result<(), Fail> {
+    let mut limits = Limits::standard();
+    limits.requests = 1;
+    expect(
+        &rt,
+        rt.alloc(),
+        limits,
+        "EXPORT\nEXPORT\n",
+        EMPTY,
+        End::Spent,
+    )?;
+    limits.requests = 2;
+    let input = "\nwhat\nEXPORT\n";
+    expect(&rt, rt.alloc(), limits, input, "NO 10\nNO 10\n", End::Spent)
+}
+
+#[test]
+fn payloads(rt: HostRuntime) -> Result<(), Fail> {
+    let mut limits = Limits::standard();
+    limits.payload = 30;
+    expect(&rt, rt.alloc(), limits, "EDIT 31\n", "", End::TooLong)?;
+    expect(&rt, rt.alloc(), limits, "EDIT 30\n", "", End::Cut)
+}
+
+// The nesting of an edit under a limit of three.
+#[test]
+fn nesting(rt: HostRuntime) -> Result<(), Fail> {
+    let mut limits = Limits::standard();
+    limits.depth = 3;
+    let input = "EDIT 5\n+((((EDIT 4\n+(((";
+    expect(
+        &rt,
+        rt.alloc(),
+        limits,
+        input,
+        "NO 21 4\nNO 20 1\n",
+        End::Closed,
+    )
+}
