@@ -23,8 +23,8 @@ use Rattle.ad_tree.specs.declared.axioms.Axiom.{Axiom}
 use Rattle.ad_tree.specs.declared.axioms.Axiom.TheVariants as a
 use Rattle.ad_tree.specs.declared.axioms.Noted.{Noted}
 use Rattle.ad_tree.proofs.Induction.{AnnotationCases, annotation_induction}
-use Rattle.ad_terms.specs.declared.item.Item.{Item}
-use Rattle.ad_terms.specs.declared.item.Item.TheVariants as i
+use Rattle.ad_terms.specs.declared.item.StackItem.{StackItem}
+use Rattle.ad_terms.specs.declared.item.StackItem.TheVariants as i
 use Rattle.ad_terms.specs.declared.keyword.Keyword.{Keyword}
 use Rattle.ad_terms.specs.declared.keyword.Keyword.TheVariants as keyword
 use Rattle.ad_terms.specs.declared.keyword.AxiomWord.{AxiomWord}
@@ -108,42 +108,42 @@ module _ (words : Words) where
       refl
 
   -- arguments of a shape, of which the keyword makes an axiom
-  of_shape : {A : Type 0} (word : AxiomWord) (take : List Item → Option A) (make : A → Axiom) → ((items : List Item) → axiom_of word items ≡ option_map make (take items))
+  of_shape : {A : Type 0} (word : AxiomWord) (take : List StackItem → Option A) (make : A → Axiom) → ((items : List StackItem) → axiom_of word items ≡ option_map make (take items))
       → (x : A) (t : Text) → Arguments words take x t → Arguments words (axiom_of word) (make x) t
   of_shape word take make same x t found = record { items = found.items; is = same found.items ∙ ap (option_map make) found.is; bare = found.bare; gathers = found.gathers }
 
   module _ (w : List ℕ) (word : AxiomWord) (known : keyword_of w ≡ Some (keyword.Axiom word)) where
-    axiom_one : {A : Type 0} (f : Item → Option A) (spells : A → Text → Type 0) (make : A → Axiom) → ((items : List Item) → axiom_of word items ≡ option_map make (one f items))
+    axiom_one : {A : Type 0} (f : StackItem → Option A) (spells : A → Text → Type 0) (make : A → Axiom) → ((items : List StackItem) → axiom_of word items ≡ option_map make (one f items))
         → (notes : List Annotation) (x : A) → Is words spells f x → (ts : Text) → Compound w (Then (Notes notes) (spells x)) ts → Reads words (noted notes (make x)) ts
     axiom_one f spells make same notes x r ts s =
         axiom_made w word known notes (make x) (spells x) (λ t h. of_shape word (one f) make same x t (one_argument words f x t (r t h))) ts s
 
-    axiom_two : {A B : Type 0} (f : Item → Option A) (g : Item → Option B) (spells : A → Text → Type 0) (spells' : B → Text → Type 0) (make : A × B → Axiom)
-        → ((items : List Item) → axiom_of word items ≡ option_map make (two f g items))
+    axiom_two : {A B : Type 0} (f : StackItem → Option A) (g : StackItem → Option B) (spells : A → Text → Type 0) (spells' : B → Text → Type 0) (make : A × B → Axiom)
+        → ((items : List StackItem) → axiom_of word items ≡ option_map make (two f g items))
         → (notes : List Annotation) (x : A) (y : B) → Is words spells f x → Is words spells' g y → (ts : Text) → Compound w (Then (Notes notes) (Then (spells x) (spells' y))) ts → Reads words (noted notes (make (x, y))) ts
     axiom_two f g spells spells' make same notes x y r r' ts s =
         axiom_made w word known notes (make (x, y)) (λ t. Then (spells x) (spells' y) t) (λ t h. of_shape word (two f g) make same (x, y) t (two_arguments words f g x y t h.0 h.1 h.2 (r h.0 h.3) (r' h.1 h.4))) ts s
 
-    axiom_three : {A B C : Type 0} (f : Item → Option A) (g : Item → Option B) (k : Item → Option C) (spells : A → Text → Type 0) (spells' : B → Text → Type 0) (spells'' : C → Text → Type 0) (make : A × (B × C) → Axiom)
-        → ((items : List Item) → axiom_of word items ≡ option_map make (three f g k items))
+    axiom_three : {A B C : Type 0} (f : StackItem → Option A) (g : StackItem → Option B) (k : StackItem → Option C) (spells : A → Text → Type 0) (spells' : B → Text → Type 0) (spells'' : C → Text → Type 0) (make : A × (B × C) → Axiom)
+        → ((items : List StackItem) → axiom_of word items ≡ option_map make (three f g k items))
         → (notes : List Annotation) (x : A) (y : B) (z : C) → Is words spells f x → Is words spells' g y → Is words spells'' k z
         → (ts : Text) → Compound w (Then (Notes notes) (Then (spells x) (Then (spells' y) (spells'' z)))) ts → Reads words (noted notes (make (x, (y, z)))) ts
     axiom_three f g k spells spells' spells'' make same notes x y z r r' r'' ts s =
         axiom_made w word known notes (make (x, (y, z))) (λ t. Then (spells x) (Then (spells' y) (spells'' z)) t) (λ t h. of_shape word (three f g k) make same (x, (y, z)) t
         (three_arguments words f g k x y z t h.0 h.1 h.4.0 h.4.1 h.2 h.4.2 (r h.0 h.3) (r' h.4.0 h.4.3) (r'' h.4.1 h.4.4))) ts s
 
-    axiom_each : {A : Type 0} (f : Item → Option A) (spells : A → Text → Type 0) (make : List A → Axiom) → ((items : List Item) → axiom_of word items ≡ option_map make (each f items))
+    axiom_each : {A : Type 0} (f : StackItem → Option A) (spells : A → Text → Type 0) (make : List A → Axiom) → ((items : List StackItem) → axiom_of word items ≡ option_map make (each f items))
         → (notes : List Annotation) (xs : List A) → ((x : A) → Is words spells f x) → (ts : Text) → Compound w (Then (Notes notes) (Many1 spells xs)) ts → Reads words (noted notes (make xs)) ts
     axiom_each f spells make same notes xs r ts s =
         axiom_made w word known notes (make xs) (λ t. Many1 spells xs t) (λ t h. of_shape word (each f) make same xs t (each_argument words spells f xs (for_all _ r xs) t h)) ts s
 
   -- the list between parentheses in front is taken off
-  group_off : {X : Type 0} (f : Item → Option X) (xs : List X) (items rest : List Item) (t : Text) → each f items ≡ Some xs → Gathers words items t
+  group_off : {X : Type 0} (f : StackItem → Option X) (xs : List X) (items rest : List StackItem) (t : Text) → each f items ≡ Some xs → Gathers words items t
       → list_at f ((i.Open ∷ (items ++ i.Close ∷ [])) ++ rest) ≡ (Some xs, rest)
   group_off {X = X} f xs items rest t are g =
-      ap (λ found. let taken : Option (List X) × List Item = (each f (gather found 0).0, (gather found 0).1) in taken) (append_assoc items (i.Close ∷ []) rest)
-      ∙ ap (λ (found : List Item × List Item). let taken : Option (List X) × List Item = (each f found.0, found.1) in taken) (g.balanced (i.Close ∷ rest) 0 ∙ ap (λ found. let taken : List Item × List Item = (found, rest) in taken) (append-nil items))
-      ∙ ap (λ found. let taken : Option (List X) × List Item = (found, rest) in taken) are
+      ap (λ found. let taken : Option (List X) × List StackItem = (each f (gather found 0).0, (gather found 0).1) in taken) (append_assoc items (i.Close ∷ []) rest)
+      ∙ ap (λ (found : List StackItem × List StackItem). let taken : Option (List X) × List StackItem = (each f found.0, found.1) in taken) (g.balanced (i.Close ∷ rest) 0 ∙ ap (λ found. let taken : List StackItem × List StackItem = (found, rest) in taken) (append-nil items))
+      ∙ ap (λ found. let taken : Option (List X) × List StackItem = (found, rest) in taken) are
 
   abbrev key_with : Option Class → Option (List ObjProp) → Option (List (List ℕ)) → Option Axiom
   key_with class objects values = keyed class (option_zip objects values)
@@ -154,13 +154,13 @@ module _ (words : Words) where
       let r = classes_read words class t1 s in
       let first = many words (SpellsProperty words) as_property objects (for_all _ (properties_read words) objects) inner os in
       let second = many words (IsName words) as_name values (for_all _ (names_read words) values) inner' ns in
-      let group1 : List Item = i.Open ∷ (first.items ++ i.Close ∷ []) in
-      let group2 : List Item = i.Open ∷ (second.items ++ i.Close ∷ []) in
+      let group1 : List StackItem = i.Open ∷ (first.items ++ i.Close ∷ []) in
+      let group2 : List StackItem = i.Open ∷ (second.items ++ i.Close ∷ []) in
       let P : Text → Type 0 = λ u. Gathers words (group1 ++ group2) u in
       let Q : Text → Type 0 = λ u. Gathers words (r.item ∷ (group1 ++ group2)) u in
       record {
         items = r.item ∷ (group1 ++ group2);
-        is = ap (λ (taken : Option (List ObjProp) × List Item). key_with (as_class r.item) taken.0 (last_list (list_at as_name taken.1))) (group_off as_property objects first.items group2 inner first.are first.gathers)
+        is = ap (λ (taken : Option (List ObjProp) × List StackItem). key_with (as_class r.item) taken.0 (last_list (list_at as_name taken.1))) (group_off as_property objects first.items group2 inner first.are first.gathers)
             ∙ ap (λ found. key_with (as_class r.item) (Some objects) (last_list (list_at as_name found))) (sym (append-nil group2))
             ∙ ap (λ taken. key_with (as_class r.item) (Some objects) (last_list taken)) (group_off as_name values second.items [] inner' second.are second.gathers)
             ∙ ap (λ o. key_with o (Some objects) (Some values)) r.is;

@@ -15,7 +15,7 @@ use Rattle.ad_tree.specs.declared.classes.Class.TheOpen.{Class-F}
 use Rattle.ad_tree.specs.declared.classes.Class.TheViews.{roll-Class}
 use Rattle.ad_tree.specs.declared.classes.Class.TheVariants as c
 use Rattle.ad_tree.proofs.Induction.{ClassCases, class_induction}
-use Rattle.ad_terms.specs.declared.item.Item.{Item}
+use Rattle.ad_terms.specs.declared.item.StackItem.{StackItem}
 use Rattle.ad_terms.specs.declared.keyword.Keyword.{Keyword}
 use Rattle.ad_terms.specs.declared.keyword.Keyword.TheVariants as keyword
 use Rattle.ad_terms.specs.declared.keyword.ClassWord.{ClassWord}
@@ -48,14 +48,14 @@ module _ (words : Words) where
   Counted n property filler ts = Then (IsNumber n) (Then (SpellsProperty words property) (Optional Spells filler)) ts
 
   counted_read : (w : List ℕ) (word : ClassWord) → keyword_of w ≡ Some (keyword.Class word) → (make : (ℕ × (ObjProp × Option Class)) → Class)
-      → ((items : List Item) → class_of word items ≡ option_map make (counted as_number as_property as_class items))
+      → ((items : List StackItem) → class_of word items ≡ option_map make (counted as_number as_property as_class items))
       → (n : ℕ) (property : ObjProp) (filler : Option Class) → IfSome filler IsRead → (ts : Text) → Compound w (Counted n property filler) ts → ReadsAs words as_class (make (n, (property, filler))) ts
   counted_read w word known make same n property filler is_read ts (inner, e, (a, bc, e', number, (b, c, e'', s, ss))) =
       class_made words w word known (counted as_number as_property as_class) make same (n, (property, filler)) inner ts
       (counted_arguments words as_property Spells as_class n property filler is_read inner a bc b c e' number e'' (properties_read words property b s) ss) e
 
   data_counted_read : (w : List ℕ) (word : ClassWord) → keyword_of w ≡ Some (keyword.Class word) → (make : (ℕ × (List ℕ × Option Range)) → Class)
-      → ((items : List Item) → class_of word items ≡ option_map make (counted as_number as_name as_range items))
+      → ((items : List StackItem) → class_of word items ≡ option_map make (counted as_number as_name as_range items))
       → (n : ℕ) (property : List ℕ) (range : Option Range) → (ts : Text) → Compound w (Then (IsNumber n) (Then (IsName words property) (Optional (SpellsRange words) range))) ts → ReadsAs words as_class (make (n, (property, range))) ts
   data_counted_read w word known make same n property range ts (inner, e, (a, bc, e', number, (b, c, e'', s, ss))) =
       class_made words w word known (counted as_number as_name as_range) make same (n, (property, range)) inner ts

@@ -3,7 +3,7 @@ use Rattle.std.proofs.Common.{◌≡◌, ℕ, ◌+◌, ◌≤◌, List, [], ◌�
 use Rattle.std.specs.Option.{option_map}
 use Rattle.std.proofs.lemmas.Bool.{true≢false}
 use Rattle.ad_tree.specs.declared.edits.Op.{Op}
-use Rattle.ad_terms.specs.declared.item.Item.{Item}
+use Rattle.ad_terms.specs.declared.item.StackItem.{StackItem}
 use Rattle.ad_terms.specs.Items.{as_sign, as_axiom}
 use Rattle.ad_terms.specs.Shapes.{behind_top, more}
 use Rattle.ad_terms.proofs.Taking.{no_two, one_more}
@@ -12,10 +12,10 @@ use Rattle.ad_build.specs.Lists.{operation, operations}
 none_not_some : {A : Type 0} (x : A) → Some x ≡ None → ⊥
 none_not_some x h = absurd (true≢false (ap is_some h))
 
-no_one : (item : Item) (x : Op) → Some x ≡ operation (item ∷ []) → ⊥
+no_one : (item : StackItem) (x : Op) → Some x ≡ operation (item ∷ []) → ⊥
 no_one item x h = no_two as_sign as_axiom (λ p. record { sign = p.0; noted = p.1 }) item x h
 
-pub operations_on : (items rest : List Item) (all next : List Op) (x : Op) → Some x ≡ operation items → rest ≡ behind_top (behind_top items) → next ≡ all ++ x ∷ []
+pub operations_on : (items rest : List StackItem) (all next : List Op) (x : Op) → Some x ≡ operation items → rest ≡ behind_top (behind_top items) → next ≡ all ++ x ∷ []
     → option_map (λ xs. all ++ xs) (operations items) ≡ option_map (λ xs. next ++ xs) (operations rest)
 operations_on [] rest all next x h e e' = absurd (none_not_some x h)
 operations_on (sign ∷ []) rest all next x h e e' = absurd (no_one sign x h)
@@ -25,12 +25,12 @@ operations_on (sign ∷ stated ∷ items) rest all next x h e e' =
     ∙ ap (λ us. option_map (λ xs. next ++ xs) (operations us)) (sym e)
 
 -- an operation takes two items
-pub some_left : (items : List Item) (x : Op) → Some x ≡ operation items → 2 ≤ length items
+pub some_left : (items : List StackItem) (x : Op) → Some x ≡ operation items → 2 ≤ length items
 some_left [] x h = absurd (none_not_some x h)
 some_left (sign ∷ []) x h = absurd (no_one sign x h)
 some_left (sign ∷ stated ∷ items) x h = omega arith
 
-pub fewer_left : (items rest : List Item) (all next : List Op) (x : Op) (n : ℕ) → Some x ≡ operation items → rest ≡ behind_top (behind_top items) → next ≡ all ++ x ∷ [] → length all + length items ≤ n → length next + length rest ≤ n
+pub fewer_left : (items rest : List StackItem) (all next : List Op) (x : Op) (n : ℕ) → Some x ≡ operation items → rest ≡ behind_top (behind_top items) → next ≡ all ++ x ∷ [] → length all + length items ≤ n → length next + length rest ≤ n
 fewer_left [] rest all next x n h e e' few = absurd (none_not_some x h)
 fewer_left (sign ∷ []) rest all next x n h e e' few = absurd (no_one sign x h)
 fewer_left (sign ∷ stated ∷ items) rest all next x n h e e' few =

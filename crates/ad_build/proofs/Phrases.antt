@@ -27,8 +27,8 @@ use Rattle.ad_tree.specs.declared.ranges.Range.TheVariants as r
 use Rattle.ad_tree.specs.declared.classes.Class.{Class}
 use Rattle.ad_tree.specs.declared.classes.Class.TheVariants as c
 use Rattle.ad_tree.proofs.Induction.{RangeCases, range_induction, ClassCases, class_induction}
-use Rattle.ad_terms.specs.declared.item.Item.{Item}
-use Rattle.ad_terms.specs.declared.item.Item.TheVariants as i
+use Rattle.ad_terms.specs.declared.item.StackItem.{StackItem}
+use Rattle.ad_terms.specs.declared.item.StackItem.TheVariants as i
 use Rattle.ad_terms.specs.declared.keyword.Keyword.{Keyword}
 use Rattle.ad_terms.specs.declared.keyword.Keyword.TheVariants as keyword
 use Rattle.ad_terms.specs.declared.keyword.RangeWord.{RangeWord}
@@ -50,7 +50,7 @@ use Rattle.ad_build.proofs.Arguments.{Arguments, one_argument, two_arguments, ea
 use Rattle.ad_grammar.proofs.Equations.{as_spelled, spells_range-named, spells_range-and, spells_range-or, spells_range-not, spells_range-one_of, spells_range-restriction}
 
 module _ (words : Words) where
-  pub name_as : {X : Type 0} (f : Item → Option X) (x : X) (name : List ℕ) → f (i.Name name) ≡ Some x → (ts : Text) → IsName words name ts → ReadsAs words f x ts
+  pub name_as : {X : Type 0} (f : StackItem → Option X) (x : X) (name : List ℕ) → f (i.Name name) ≡ Some x → (ts : Text) → IsName words name ts → ReadsAs words f x ts
   name_as f x name is ts n = record { item = i.Name name; is = is; other = refl; phrase = name_reads words name ts n }
 
   pub names_read : (name : List ℕ) → Is words (IsName words) as_name name
@@ -59,7 +59,7 @@ module _ (words : Words) where
   label_reads : (label : List ℕ) (ts : Text) → ts ≡ says.Node label ∷ [] → Reads words (i.Label label) ts
   label_reads label ts e = record { whole = refl; begins = λ rest. ap (λ t. begins (t ++ rest)) e; reads = λ rest h. ap (λ t. reads words (t ++ rest)) e }
 
-  pub label_as : {X : Type 0} (f : Item → Option X) (x : X) (label : List ℕ) → f (i.Label label) ≡ Some x → (ts : Text) → ts ≡ says.Node label ∷ [] → ReadsAs words f x ts
+  pub label_as : {X : Type 0} (f : StackItem → Option X) (x : X) (label : List ℕ) → f (i.Label label) ≡ Some x → (ts : Text) → ts ≡ says.Node label ∷ [] → ReadsAs words f x ts
   label_as f x label is ts e = record { item = i.Label label; is = is; other = refl; phrase = label_reads label ts e }
 
   pub literal_reads : (x : Literal) (ts : Text) → SpellsLiteral words x ts → Reads words (i.Literal x) ts
@@ -79,7 +79,7 @@ module _ (words : Words) where
     reads = λ rest h. ap (λ t. reads words (t ++ rest)) e ∙ ap (λ items. put_text text (i.Carets ∷ items)) ((name_reads words datatype name n).reads rest h);
   }
 
-  pub literal_as : {X : Type 0} (f : Item → Option X) (y : X) (x : Literal) → f (i.Literal x) ≡ Some y → (ts : Text) → SpellsLiteral words x ts → ReadsAs words f y ts
+  pub literal_as : {X : Type 0} (f : StackItem → Option X) (y : X) (x : Literal) → f (i.Literal x) ≡ Some y → (ts : Text) → SpellsLiteral words x ts → ReadsAs words f y ts
   literal_as f y x is ts s = record { item = i.Literal x; is = is; other = refl; phrase = literal_reads x ts s }
 
   pub literals_read : (x : Literal) → Is words (SpellsLiteral words) as_literal x
@@ -122,7 +122,7 @@ module _ (words : Words) where
 
   -- facets, each with its value
   record Facets (all : List Facet) (ts : Text) : Type 0 where
-    items : List Item
+    items : List StackItem
     are : facets items ≡ Some all
     gathers : Gathers words items ts
 
@@ -145,7 +145,7 @@ module _ (words : Words) where
 
   -- a data range or a class expression that a keyword makes of its arguments
   pub range_made : (w : List ℕ) (word : RangeWord) → keyword_of w ≡ Some (keyword.Range word)
-      → {A : Type 0} (take : List Item → Option A) (make : A → Range) → ((items : List Item) → range_of word items ≡ option_map make (take items))
+      → {A : Type 0} (take : List StackItem → Option A) (make : A → Range) → ((items : List StackItem) → range_of word items ≡ option_map make (take items))
       → (x : A) (inner ts : Text) → Arguments words take x inner → ts ≡ says.Plain w ∷ says.Left ∷ (inner ++ says.Right ∷ []) → ReadsAs words as_range (make x) ts
   range_made w word known take make same x inner ts found e = record {
     item = i.Range (make x);
@@ -156,7 +156,7 @@ module _ (words : Words) where
   }
 
   pub class_made : (w : List ℕ) (word : ClassWord) → keyword_of w ≡ Some (keyword.Class word)
-      → {A : Type 0} (take : List Item → Option A) (make : A → Class) → ((items : List Item) → class_of word items ≡ option_map make (take items))
+      → {A : Type 0} (take : List StackItem → Option A) (make : A → Class) → ((items : List StackItem) → class_of word items ≡ option_map make (take items))
       → (x : A) (inner ts : Text) → Arguments words take x inner → ts ≡ says.Plain w ∷ says.Left ∷ (inner ++ says.Right ∷ []) → ReadsAs words as_class (make x) ts
   class_made w word known take make same x inner ts found e = record {
     item = i.Class (make x);

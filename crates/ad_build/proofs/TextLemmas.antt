@@ -16,8 +16,8 @@ use Rattle.ad_entity.specs.declared.entities.Entity.{Entity}
 use Rattle.ad_tree.specs.declared.edits.Op.{Op}
 use Rattle.ad_tree.specs.declared.edits.Sign.{Sign}
 use Rattle.ad_tree.specs.declared.edits.Sign.TheVariants as signs
-use Rattle.ad_terms.specs.declared.item.Item.{Item}
-use Rattle.ad_terms.specs.declared.item.Item.TheVariants as i
+use Rattle.ad_terms.specs.declared.item.StackItem.{StackItem}
+use Rattle.ad_terms.specs.declared.item.StackItem.TheVariants as i
 use Rattle.ad_terms.specs.Shapes.{more, each}
 use Rattle.ad_terms.specs.Items.{as_entity}
 use Rattle.ad_terms.specs.Stacks.{gather, leading_notes, behind_names}
@@ -28,23 +28,23 @@ use Rattle.ad_build.proofs.Arguments.{notes_off}
 use Rattle.ad_build.proofs.AxiomPhrases.{axioms_read, notes_read, entities_read}
 
 -- each token gives one item at most
-gather_few : (items : List Item) (depth : ℕ) → length (gather items depth).1 ≤ length items
+gather_few : (items : List StackItem) (depth : ℕ) → length (gather items depth).1 ≤ length items
 gather_few [] depth = omega arith
 gather_few (i.Close ∷ items) zero = omega arith
 gather_few (i.Close ∷ items) (suc depth) = omega (arith, gather_few items depth)
 gather_few (i.Open ∷ items) depth = omega (arith, gather_few items (suc depth))
 gather_few (item ∷ items) depth = omega (arith, gather_few items depth)
 
-put_word_few : (word : List ℕ) (items : List Item) → length (put_word word items) ≤ suc (length items)
+put_word_few : (word : List ℕ) (items : List StackItem) → length (put_word word items) ≤ suc (length items)
 put_word_few word [] = omega arith
 put_word_few word (i.Open ∷ items) = omega (arith, gather_few items 0)
 put_word_few word (item ∷ items) = omega arith
 
-put_text_few : (text : List ℕ) (items : List Item) → length (put_text text items) ≤ suc (length items)
+put_text_few : (text : List ℕ) (items : List StackItem) → length (put_text text items) ≤ suc (length items)
 put_text_few text (i.Carets ∷ i.Name datatype ∷ items) = omega arith
 put_text_few text items = omega arith
 
-put_few : (words : Words) (l : Lexeme) (items : List Item) → length (put words l items) ≤ suc (length items)
+put_few : (words : Words) (l : Lexeme) (items : List StackItem) → length (put words l items) ≤ suc (length items)
 put_few words (says.Text text) items = put_text_few text items
 put_few words (says.Plain word) items = put_word_few word items
 put_few words l items = omega arith
@@ -55,10 +55,10 @@ reads_few words (l ∷ ls) = omega (arith, put_few words l (reads words ls), rea
 
 module _ (words : Words) where
   -- a whole text stands for its items
-  pub whole : (items : List Item) (ts : Text) → Gathers words items ts → reads words ts ≡ items
+  pub whole : (items : List StackItem) (ts : Text) → Gathers words items ts → reads words ts ≡ items
   whole items ts g = ap (reads words) (sym (append-nil ts)) ∙ g.reads [] refl ∙ append-nil items
 
-  along_text : (items : List Item) (ts us : Text) → ts ≡ us → Gathers words items us → Gathers words items ts
+  along_text : (items : List StackItem) (ts us : Text) → ts ≡ us → Gathers words items us → Gathers words items ts
   along_text items ts us e g = let P : Text → Type 0 = λ t. Gathers words items t in subst P (sym e) g
 
   sign_gathers : (sign : Sign) → Gathers words (i.Signed sign ∷ []) (sign_of sign ∷ [])
@@ -66,7 +66,7 @@ module _ (words : Words) where
   sign_gathers signs.Remove = record { balanced = λ rest depth. refl; begins = λ rest h. refl; reads = λ rest h. refl }
 
   record Operations (ops : List Op) (ts : Text) : Type 0 where
-    items : List Item
+    items : List StackItem
     are : operations items ≡ Some ops
     gathers : Gathers words items ts
 
@@ -96,12 +96,12 @@ module _ (words : Words) where
   axioms_gather (x ∷ all) ts (a, b, e, s, ss) =
       along_text (i.Axiom x ∷ map i.Axiom all) ts (a ++ b) e (joined words (i.Axiom x ∷ []) (map i.Axiom all) a b (single words (i.Axiom x) a (axioms_read words x.notes x.«axiom» a s)) (axioms_gather all b ss))
 
-names_off : (names : List (List ℕ)) (items : List Item) → behind_names (map i.Name names ++ items) ≡ behind_names items
+names_off : (names : List (List ℕ)) (items : List StackItem) → behind_names (map i.Name names ++ items) ≡ behind_names items
 names_off [] items = refl
 names_off (name ∷ names) items = names_off names items
 
 -- the axioms, and the parenthesis behind them
-abbrev closing : List Noted → List Item
+abbrev closing : List Noted → List StackItem
 closing all = map i.Axiom all ++ i.Close ∷ []
 
 no_names : (notes : List Annotation) (all : List Noted) → behind_names (map i.Note notes ++ closing all) ≡ map i.Note notes ++ closing all
@@ -117,14 +117,14 @@ axioms_off : (all : List Noted) → additions (closing all) ≡ Some (map additi
 axioms_off [] = refl
 axioms_off (x ∷ all) = ap (more (Some (addition x))) (axioms_off all)
 
-abbrev pub of_body : List Item → Option (List Op)
+abbrev pub of_body : List StackItem → Option (List Op)
 of_body items = additions (leading_notes (behind_names items)).1
 
 body_off : (names : List (List ℕ)) (notes : List Annotation) (all : List Noted) → of_body ((map i.Name names ++ (map i.Note notes ++ map i.Axiom all)) ++ i.Close ∷ []) ≡ Some (map addition all)
 body_off names notes all =
     ap of_body (append_assoc (map i.Name names) (map i.Note notes ++ map i.Axiom all) (i.Close ∷ []) ∙ ap (λ items. map i.Name names ++ items) (append_assoc (map i.Note notes) (map i.Axiom all) (i.Close ∷ [])))
     ∙ ap (λ items. additions (leading_notes items).1) (names_off names (map i.Note notes ++ closing all) ∙ no_names notes all)
-    ∙ ap (λ (taken : List Annotation × List Item). additions taken.1) (notes_off notes (closing all) (no_notes all))
+    ∙ ap (λ (taken : List Annotation × List StackItem). additions taken.1) (notes_off notes (closing all) (no_notes all))
     ∙ axioms_off all
 
 -- the body of an ontology
@@ -139,7 +139,7 @@ stated_read words all ts (inner, e, (h, r1, e1, (names, short, ns), (im, r2, e2,
 pub ontology_long : (words : Words) (inside : Text → Type 0) (ts : Text) → Ontology false words inside ts → length ts < 2 → ⊥
 ontology_long words inside ts (inner, e, s) short = let n : length ts ≡ length (says.Plain kw.Ontology ∷ says.Left ∷ (inner ++ says.Right ∷ [])) = ap length e in omega arith
 
-pub few_items : (words : Words) (text : List ℕ) (tokens : List Token) (from : ℕ) (items : List Item) → items ≡ reads words (lexemes text (drop from tokens)) → length tokens < 2 ^ 32 → length items < 2 ^ 32
+pub few_items : (words : Words) (text : List ℕ) (tokens : List Token) (from : ℕ) (items : List StackItem) → items ≡ reads words (lexemes text (drop from tokens)) → length tokens < 2 ^ 32 → length items < 2 ^ 32
 few_items words text tokens from items e few =
     let n : length items ≡ length (reads words (lexemes text (drop from tokens))) = ap length e in
     let m : length (lexemes text (drop from tokens)) ≤ length tokens = simp (length-map, length-drop) (omega arith) in
@@ -156,17 +156,17 @@ entities_of words all ts s =
     let found = many words (SpellsEntity words) as_entity all (for_all _ (entities_read words) all) ts s in
     ap (each as_entity) (whole words found.items ts found.gathers) ∙ found.are
 
-names_fewer : (items : List Item) → length (behind_names items) ≤ length items
+names_fewer : (items : List StackItem) → length (behind_names items) ≤ length items
 names_fewer (i.Name name ∷ items) = omega (arith, names_fewer items)
 names_fewer [] = omega arith
 names_fewer (item ∷ items) = omega arith
 
-notes_fewer : (items : List Item) → length (leading_notes items).1 ≤ length items
+notes_fewer : (items : List StackItem) → length (leading_notes items).1 ≤ length items
 notes_fewer (i.Note note ∷ items) = omega (arith, notes_fewer items)
 notes_fewer [] = omega arith
 notes_fewer (item ∷ items) = omega arith
 
-pub fewer : (items middle last : List Item) → middle ≡ behind_names items → last ≡ (leading_notes middle).1 → length items < 2 ^ 32 → length last < 2 ^ 32
+pub fewer : (items middle last : List StackItem) → middle ≡ behind_names items → last ≡ (leading_notes middle).1 → length items < 2 ^ 32 → length last < 2 ^ 32
 fewer items middle last e f few =
     let m : length middle ≡ length (behind_names items) = ap length e in
     let n : length last ≡ length (leading_notes middle).1 = ap length f in

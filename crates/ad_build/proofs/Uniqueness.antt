@@ -5,15 +5,15 @@ use Rattle.ad_grammar.specs.Names.{Words}
 use Rattle.ad_grammar.specs.Shapes.{Text}
 use Rattle.ad_grammar.specs.Axioms.{SpellsNoted}
 use Rattle.ad_tree.specs.declared.axioms.Noted.{Noted}
-use Rattle.ad_terms.specs.declared.item.Item.{Item}
-use Rattle.ad_terms.specs.declared.item.Item.TheVariants as i
+use Rattle.ad_terms.specs.declared.item.StackItem.{StackItem}
+use Rattle.ad_terms.specs.declared.item.StackItem.TheVariants as i
 use Rattle.ad_terms.specs.Items.{as_axiom}
 use Rattle.ad_terms.specs.Shapes.{one}
 use Rattle.ad_build.specs.Reads.{reads}
 use Rattle.ad_build.proofs.Readings.{Is, ReadsAs}
 use Rattle.ad_build.proofs.AxiomPhrases.{axioms_read}
 
-module _ (words : Words) {X : Type 0} (spells : X → Text → Type 0) (f : Item → Option X) where
+module _ (words : Words) {X : Type 0} (spells : X → Text → Type 0) (f : StackItem → Option X) where
   -- the one item of a whole text is what the text spells
   pub alone : (x : X) → Is words spells f x → (ts : Text) → spells x ts → one f (reads words ts) ≡ Some x
   alone x is ts s =

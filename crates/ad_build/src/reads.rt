@@ -3,7 +3,7 @@ ghost use Rattle.ad_lex.specs.Lexemes.{lexeme, lexemes};
 ghost use Rattle.ad_lex.specs.Spans.{IsTokenOf, AreTokensOf};
 ghost use Rattle.ad_grammar.specs.Texts.{in_force};
 ghost use Rattle.ad_prefixes.specs.Declarations.{declarations};
-ghost use Rattle.ad_terms.specs.declared.item.Item.TheVariants as i;
+ghost use Rattle.ad_terms.specs.declared.item.StackItem.TheVariants as i;
 ghost use Rattle.ad_terms.specs.declared.keyword.Keyword.TheVariants as keyword;
 ghost use Rattle.ad_build.specs.Reads.{put, put_text, put_word, named, built, built_by, unless_broken, number_of, reads};
 
@@ -12,7 +12,7 @@ use ad_base::{Memory, Word, are_digits};
 use ad_lex::{Mark, Token};
 use ad_prefixes::Prefixes;
 use ad_terms::{
-    AxiomWord, ClassWord, Item, Keyword, RangeWord, Stack, axiom_of, class_of, each, one, range_of,
+    AxiomWord, ClassWord, StackItem, Keyword, RangeWord, Stack, axiom_of, class_of, each, one, range_of,
     two,
 };
 use ad_tree::{Annotation, Entity, EntityKind, Literal, Noted, Sign, Value};
@@ -52,31 +52,31 @@ fn put(
     ensures { OnOk result (items.new ≡ put (in_force (declarations prefixes.now)) (lexeme text.now token) items.old) }
 {
     match token.mark {
-        Mark::Left => items.push(Item::Open),
-        Mark::Right => items.push(Item::Close),
-        Mark::Equals => items.push(Item::Broken),
-        Mark::Carets => items.push(Item::Carets),
-        Mark::Plus => items.push(Item::Signed(Sign::Add)),
-        Mark::Minus => items.push(Item::Signed(Sign::Remove)),
-        Mark::Iri => items.push(Item::Name(Word::of(alloc, token.iri(text))?)),
+        Mark::Left => items.push(StackItem::Open),
+        Mark::Right => items.push(StackItem::Close),
+        Mark::Equals => items.push(StackItem::Broken),
+        Mark::Carets => items.push(StackItem::Carets),
+        Mark::Plus => items.push(StackItem::Signed(Sign::Add)),
+        Mark::Minus => items.push(StackItem::Signed(Sign::Remove)),
+        Mark::Iri => items.push(StackItem::Name(Word::of(alloc, token.iri(text))?)),
         Mark::Text => put_text(token.string(alloc, text)?, items),
         Mark::Plain => put_word(alloc, token.plain(text), items),
         Mark::Short => {
             let (prefix, local) = token.short(text);
             items.push(named(alloc, prefix, local, prefixes)?)
         }
-        Mark::Node => items.push(Item::Label(Word::of(alloc, token.label(text))?)),
-        Mark::Lang => items.push(Item::Tag(Word::of(alloc, token.tag(text))?)),
+        Mark::Node => items.push(StackItem::Label(Word::of(alloc, token.label(text))?)),
+        Mark::Lang => items.push(StackItem::Tag(Word::of(alloc, token.tag(text))?)),
     }
 }
 
 /// The name of a prefix and a local part.
-fn named(alloc: Global, prefix: &str, local: &str, prefixes: &Prefixes) -> Result<Item, Memory>
+fn named(alloc: Global, prefix: &str, local: &str, prefixes: &Prefixes) -> Result<StackItem, Memory>
     ensures { IfOk result (λ item. item ≡ named local.now (in_force (declarations prefixes.now) prefix.now)) }
 {
     match prefixes.name(alloc, prefix, local)? {
-        Some(name) => Ok(Item::Name(name)),
-        None => Ok(Item::Broken),
+        Some(name) => Ok(StackItem::Name(name)),
+        None => Ok(StackItem::Broken),
     }
 }
 
@@ -85,13 +85,13 @@ fn put_text(value: Word, items: &mut Stack) -> Result<(), Memory>
     ensures { OnOk result (items.new ≡ put_text value items.old) }
 {
     match items.pop() {
-        Some(Item::Tag(tag)) => items.push(Item::Literal(Literal::Lang(value, tag))),
-        Some(Item::Carets) => put_typed(value, items),
+        Some(StackItem::Tag(tag)) => items.push(StackItem::Literal(Literal::Lang(value, tag))),
+        Some(StackItem::Carets) => put_typed(value, items),
         Some(other) => {
             items.push(other)?;
-            items.push(Item::Literal(Literal::Plain(value)))
+            items.push(StackItem::Literal(Literal::Plain(value)))
         }
-        None => items.push(Item::Literal(Literal::Plain(value))),
+        None => items.push(StackItem::Literal(Literal::Plain(value))),
     }
 }
 
@@ -100,15 +100,15 @@ fn put_typed(value: Word, items: &mut Stack) -> Result<(), Memory>
     ensures { OnOk result (items.new ≡ put_text value (i.Carets ∷ items.old)) }
 {
     match items.pop() {
-        Some(Item::Name(datatype)) => items.push(Item::Literal(Literal::Typed(value, datatype))),
+        Some(StackItem::Name(datatype)) => items.push(StackItem::Literal(Literal::Typed(value, datatype))),
         Some(other) => {
             items.push(other)?;
-            items.push(Item::Carets)?;
-            items.push(Item::Literal(Literal::Plain(value)))
+            items.push(StackItem::Carets)?;
+            items.push(StackItem::Literal(Literal::Plain(value)))
         }
         None => {
-            items.push(Item::Carets)?;
-            items.push(Item::Literal(Literal::Plain(value)))
+            items.push(StackItem::Carets)?;
+            items.push(StackItem::Literal(Literal::Plain(value)))
         }
     }
 }
@@ -118,7 +118,7 @@ fn put_word(alloc: Global, word: &str, items: &mut Stack) -> Result<(), Memory>
     ensures { OnOk result (items.new ≡ put_word word.now items.old) }
 {
     match items.pop() {
-        Some(Item::Open) => {
+        Some(StackItem::Open) => {
             let arguments = items.gather(alloc)?;
             items.push(built(alloc, word, arguments)?)
         }
@@ -131,12 +131,12 @@ fn put_word(alloc: Global, word: &str, items: &mut Stack) -> Result<(), Memory>
 }
 
 /// The number that a word is.
-fn number(word: &str) -> Item
+fn number(word: &str) -> StackItem
     ensures { result ≡ unless_broken i.Number (number_of word.now) }
 {
     match number_of(word) {
-        Some(number) => Item::Number(number),
-        None => Item::Broken,
+        Some(number) => StackItem::Number(number),
+        None => StackItem::Broken,
     }
 }
 
@@ -152,16 +152,16 @@ fn number_of(word: &str) -> Option<u32>
 }
 
 /// What a keyword and its arguments stand for.
-fn built(alloc: Global, word: &str, arguments: Stack) -> Result<Item, Memory>
+fn built(alloc: Global, word: &str, arguments: Stack) -> Result<StackItem, Memory>
     ensures { IfOk result (λ item. item ≡ built word.now arguments) }
 {
     match keyword_of(word) {
         Some(keyword) => built_by(alloc, keyword, arguments),
-        None => Ok(Item::Broken),
+        None => Ok(StackItem::Broken),
     }
 }
 
-fn built_by(alloc: Global, keyword: Keyword, arguments: Stack) -> Result<Item, Memory>
+fn built_by(alloc: Global, keyword: Keyword, arguments: Stack) -> Result<StackItem, Memory>
     ensures { IfOk result (λ item. item ≡ built_by keyword arguments) }
 {
     match keyword {
@@ -176,78 +176,78 @@ fn built_by(alloc: Global, keyword: Keyword, arguments: Stack) -> Result<Item, M
 }
 
 /// The inverse of a property.
-fn inverse(arguments: Stack) -> Item
+fn inverse(arguments: Stack) -> StackItem
     ensures { result ≡ built_by keyword.Inverse arguments }
 {
     match one(arguments) {
-        Some(made) => Item::Inverse(made),
-        None => Item::Broken,
+        Some(made) => StackItem::Inverse(made),
+        None => StackItem::Broken,
     }
 }
 
 /// A chain of properties.
-fn chain(alloc: Global, arguments: Stack) -> Result<Item, Memory>
+fn chain(alloc: Global, arguments: Stack) -> Result<StackItem, Memory>
     ensures { IfOk result (λ item. item ≡ built_by keyword.Chain arguments) }
 {
     match each(alloc, arguments)? {
-        Some(made) => Ok(Item::Chain(made)),
-        None => Ok(Item::Broken),
+        Some(made) => Ok(StackItem::Chain(made)),
+        None => Ok(StackItem::Broken),
     }
 }
 
 /// A data range.
-fn range(alloc: Global, word: RangeWord, arguments: Stack) -> Result<Item, Memory>
+fn range(alloc: Global, word: RangeWord, arguments: Stack) -> Result<StackItem, Memory>
     ensures { IfOk result (λ item. item ≡ built_by (keyword.Range word) arguments) }
 {
     match range_of(alloc, word, arguments)? {
-        Some(made) => Ok(Item::Range(made)),
-        None => Ok(Item::Broken),
+        Some(made) => Ok(StackItem::Range(made)),
+        None => Ok(StackItem::Broken),
     }
 }
 
 /// A class expression.
-fn class(alloc: Global, word: ClassWord, arguments: Stack) -> Result<Item, Memory>
+fn class(alloc: Global, word: ClassWord, arguments: Stack) -> Result<StackItem, Memory>
     ensures { IfOk result (λ item. item ≡ built_by (keyword.Class word) arguments) }
 {
     match class_of(alloc, word, arguments)? {
-        Some(made) => Ok(Item::Class(made)),
-        None => Ok(Item::Broken),
+        Some(made) => Ok(StackItem::Class(made)),
+        None => Ok(StackItem::Broken),
     }
 }
 
 /// An entity of this kind.
-fn declared(kind: EntityKind, arguments: Stack) -> Item
+fn declared(kind: EntityKind, arguments: Stack) -> StackItem
     ensures { result ≡ built_by (keyword.Entity kind) arguments }
 {
     match one(arguments) {
-        Some(name) => Item::Entity(Entity { kind, name }),
-        None => Item::Broken,
+        Some(name) => StackItem::Entity(Entity { kind, name }),
+        None => StackItem::Broken,
     }
 }
 
 /// An annotation behind its own annotations.
-fn annotated(alloc: Global, mut arguments: Stack) -> Result<Item, Memory>
+fn annotated(alloc: Global, mut arguments: Stack) -> Result<StackItem, Memory>
     ensures { IfOk result (λ item. item ≡ built_by keyword.Annotation arguments) }
 {
     let notes = arguments.notes(alloc)?;
     let parts: Option<(Word, Value)> = two(arguments);
     match parts {
-        Some((property, value)) => Ok(Item::Note(Annotation {
+        Some((property, value)) => Ok(StackItem::Note(Annotation {
             notes,
             property,
             value,
         })),
-        None => Ok(Item::Broken),
+        None => Ok(StackItem::Broken),
     }
 }
 
 /// An axiom behind its annotations.
-fn stated(alloc: Global, word: AxiomWord, mut arguments: Stack) -> Result<Item, Memory>
+fn stated(alloc: Global, word: AxiomWord, mut arguments: Stack) -> Result<StackItem, Memory>
     ensures { IfOk result (λ item. item ≡ built_by (keyword.Axiom word) arguments) }
 {
     let notes = arguments.notes(alloc)?;
     match axiom_of(alloc, word, arguments)? {
-        Some(axiom) => Ok(Item::Axiom(Noted { notes, axiom })),
-        None => Ok(Item::Broken),
+        Some(axiom) => Ok(StackItem::Axiom(Noted { notes, axiom })),
+        None => Ok(StackItem::Broken),
     }
 }

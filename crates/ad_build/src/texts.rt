@@ -18,7 +18,7 @@ use crate::reads::reads;
 use ad_base::Memory;
 use ad_lex::Token;
 use ad_prefixes::Prefixes;
-use ad_terms::{Item, ReadsAs, Stack, next_two};
+use ad_terms::{StackItem, ReadsAs, Stack, next_two};
 use ad_tree::{Batch, Entity, Noted, Op, Seed, Sign};
 use std::alloc::Global;
 
@@ -121,8 +121,8 @@ fn additions(alloc: Global, mut items: Stack) -> Result<Option<Batch>, Memory>
     let mut batch = Batch::new(alloc);
     'additions: while let Some(item) = items.pop() {
         match item {
-            Item::Axiom(noted) => batch.push(addition(noted))?,
-            Item::Close => return Ok(if items.is_empty() { Some(batch) } else { None }),
+            StackItem::Axiom(noted) => batch.push(addition(noted))?,
+            StackItem::Close => return Ok(if items.is_empty() { Some(batch) } else { None }),
             _other => return Ok(None),
         }
     }

@@ -15,7 +15,7 @@ use Rattle.ad_check.specs.declared.texts.Stop.{Stop}
 use Rattle.ad_check.specs.declared.texts.Unsupported.{Unsupported}
 use Rattle.ad_check.specs.Machine.{step, ends, accepts, fault, go_on, halt, start}
 use Rattle.ad_check.specs.Reads.{Passes, Halts}
-use Rattle.ad_check.specs.Stops.{IsAddition, Says, Names, Checks, ChecksFrom}
+use Rattle.ad_check.specs.Stops.{IsAddition, GoesOnBy, Names, Checks, ChecksFrom}
 use Rattle.ad_check.proofs.Taken.{none_not_some}
 use Rattle.ad_check.proofs.Sound.{sound}
 use Rattle.ad_check.proofs.FirstFault.{first_fault, wide_fault, whole_is, none_read, halt_is}
@@ -80,7 +80,7 @@ pub first_of_rest : (ts : Text) (items : List Symbol) (from : ℕ) (stop : Halt)
 first_of_rest ts items from stop h = moved_back from (fault 0 items ts) stop (sym (fault_moved ts items from 0) ∙ ap (λ n. fault n items ts) (plus_nothing from) ∙ h)
 
 -- what the stop of a form says
-says : (form : Form) (ts : Text) (stop : Halt) (what : Option Unsupported) → fault 0 (start form) ts ≡ Some stop → Names ts stop what → Says form ts stop.token what
+says : (form : Form) (ts : Text) (stop : Halt) (what : Option Unsupported) → fault 0 (start form) ts ≡ Some stop → Names ts stop what → GoesOnBy form ts stop.token what
 says form ts stop None h e = subst (λ b. Tells b (IsWide form ts stop.token)) e (wide_fault form ts stop h)
 says form ts stop (Some what) h (e, is) = (subst (λ b. Tells b (IsWide form ts stop.token)) e (wide_fault form ts stop h), is)
 
@@ -114,10 +114,10 @@ whole_part ts items to p below = passes_whole ts items 0 to p ∙ over_rest to (
 pub checks_ok : (form : Form) (ts : Text) (items : List Symbol) → items ≡ start form → fault 0 items ts ≡ None → IsOf false form ts
 checks_ok form ts items e h = whole_is form ts (ap (λ is. fault 0 is ts) (sym e) ∙ h)
 
-pub checks_err : (form : Form) (ts : Text) (items : List Symbol) (stop : Halt) (answer : Stop) → items ≡ start form → fault 0 items ts ≡ Some stop → answer.token ≡ stop.token → Names ts stop answer.what → IsFirstFault form ts answer.token × Says form ts answer.token answer.what
+pub checks_err : (form : Form) (ts : Text) (items : List Symbol) (stop : Halt) (answer : Stop) → items ≡ start form → fault 0 items ts ≡ Some stop → answer.token ≡ stop.token → Names ts stop answer.what → IsFirstFault form ts answer.token × GoesOnBy form ts answer.token answer.what
 checks_err form ts items stop answer e h token what =
     let h' : fault 0 (start form) ts ≡ Some stop = ap (λ is. fault 0 is ts) (sym e) ∙ h in
-    (subst (IsFirstFault form ts) (sym token) (first_fault form ts stop h'), subst (λ n. Says form ts n answer.what) (sym token) (says form ts stop answer.what h' what))
+    (subst (IsFirstFault form ts) (sym token) (first_fault form ts stop h'), subst (λ n. GoesOnBy form ts n answer.what) (sym token) (says form ts stop answer.what h' what))
 
 drop_twice : (ts : Text) (n m : ℕ) → drop m (drop n ts) ≡ drop (n + m) ts
 drop_twice ts n m = drop-drop m n ts
@@ -135,7 +135,7 @@ phrase_err form ts items from stop answer e h token what =
     let both = checks_err form (drop from ts) items first (record { token = first.token; what = answer.what }) (sym e) q.1 refl (addition_moved ts from stop first answer.what q.2 q.3 what) in
     let fault_at : IsFirstFault form (drop from ts) (answer.token - from) = subst (IsFirstFault form (drop from ts)) (sym place) both.0 in
     let none : accepts false (start form) (take (answer.token - from) (drop from ts)) ≡ false = ap (λ is. accepts false is (take (answer.token - from) (drop from ts))) e ∙ ap (λ n. accepts false items (take (n - from) (drop from ts))) token ∙ (none_before (drop from ts) items from stop h).1 in
-    (omega (arith, token, q.2), no_phrase form (drop from ts) (answer.token - from) fault_at none, fault_at, subst (λ n. Says form (drop from ts) n answer.what) (sym place) both.1)
+    (omega (arith, token, q.2), no_phrase form (drop from ts) (answer.token - from) fault_at none, fault_at, subst (λ n. GoesOnBy form (drop from ts) n answer.what) (sym place) both.1)
 
 take_drop : (ts : Text) (n m : ℕ) → take m (drop n ts) ≡ drop n (take (n + m) ts)
 take_drop ts n m = sym (drop-take n m ts)
@@ -187,7 +187,7 @@ pub err_first : (form : Form) (ts : Text) (from : ℕ) (r : Result ℕ Stop) →
 err_first form ts from (Ok to) h = tt
 err_first form ts from (Err stop) h = h.2
 
-pub err_what : (form : Form) (ts : Text) (from : ℕ) (r : Result ℕ Stop) → ChecksFrom form ts from r → IfErr r (λ stop. Says form (drop from ts) (stop.token - from) stop.what)
+pub err_what : (form : Form) (ts : Text) (from : ℕ) (r : Result ℕ Stop) → ChecksFrom form ts from r → IfErr r (λ stop. GoesOnBy form (drop from ts) (stop.token - from) stop.what)
 err_what form ts from (Ok to) h = tt
 err_what form ts from (Err stop) h = h.3
 
@@ -199,7 +199,7 @@ pub text_first : {T : Type 0} (form : Form) (ts : Text) (r : Result T Stop) → 
 text_first form ts (Ok done) h = tt
 text_first form ts (Err stop) h = h.0
 
-pub text_what : {T : Type 0} (form : Form) (ts : Text) (r : Result T Stop) → Checks form ts r → IfErr r (λ stop. Says form ts stop.token stop.what)
+pub text_what : {T : Type 0} (form : Form) (ts : Text) (r : Result T Stop) → Checks form ts r → IfErr r (λ stop. GoesOnBy form ts stop.token stop.what)
 text_what form ts (Ok done) h = tt
 text_what form ts (Err stop) h = h.1
 
@@ -224,10 +224,10 @@ phrase_token text tokens items from stop within h wide = subst (λ n. stop.token
 pub text_whole : (form : Form) (text : List ℕ) (tokens : List Token) (items : List Symbol) (to : ℕ) → items ≡ start form → Passes (lexemes text tokens) items 0 to → to ≡ length tokens → IsOf false form (lexemes text tokens)
 text_whole form text tokens items to is p end = checks_ok form (lexemes text tokens) items is (whole_over (lexemes text tokens) items to p (end ∙ sym (length-map tokens (lexeme text))))
 
-pub text_part : (form : Form) (text : List ℕ) (tokens : List Token) (items : List Symbol) (to : ℕ) (answer : Stop) → items ≡ start form → Passes (lexemes text tokens) items 0 to → to ≢ length tokens → answer.token ≡ to → Names (lexemes text tokens) (halt to false) answer.what → IsFirstFault form (lexemes text tokens) answer.token × Says form (lexemes text tokens) answer.token answer.what
+pub text_part : (form : Form) (text : List ℕ) (tokens : List Token) (items : List Symbol) (to : ℕ) (answer : Stop) → items ≡ start form → Passes (lexemes text tokens) items 0 to → to ≢ length tokens → answer.token ≡ to → Names (lexemes text tokens) (halt to false) answer.what → IsFirstFault form (lexemes text tokens) answer.token × GoesOnBy form (lexemes text tokens) answer.token answer.what
 text_part form text tokens items to answer is p not_end token what =
     let below : to < length (lexemes text tokens) = omega (arith, p.within, λ (e : to ≡ length (lexemes text tokens)). not_end (e ∙ length-map tokens (lexeme text))) in
     checks_err form (lexemes text tokens) items (halt to false) answer is (whole_part (lexemes text tokens) items to p below) token what
 
-pub text_err : (form : Form) (text : List ℕ) (tokens : List Token) (items : List Symbol) (stop : Halt) (answer : Stop) → items ≡ start form → Halts (lexemes text tokens) items 0 stop → answer.token ≡ stop.token → Names (lexemes text tokens) stop answer.what → IsFirstFault form (lexemes text tokens) answer.token × Says form (lexemes text tokens) answer.token answer.what
+pub text_err : (form : Form) (text : List ℕ) (tokens : List Token) (items : List Symbol) (stop : Halt) (answer : Stop) → items ≡ start form → Halts (lexemes text tokens) items 0 stop → answer.token ≡ stop.token → Names (lexemes text tokens) stop answer.what → IsFirstFault form (lexemes text tokens) answer.token × GoesOnBy form (lexemes text tokens) answer.token answer.what
 text_err form text tokens items stop answer is h token what = checks_err form (lexemes text tokens) items stop answer is (halts_whole (lexemes text tokens) items 0 stop h) token what

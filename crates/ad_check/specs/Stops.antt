@@ -24,9 +24,9 @@ abbrev pub IsAdditionAt : Unsupported → Text → ℕ → Type 0
 IsAdditionAt what ts at = (t : Lexeme) × (rest : Text) × (drop at ts ≡ t ∷ rest) × IsAddition what t
 
 -- whether the tokens up to and with this one begin a text of the wide grammar, and by which part of it
-abbrev pub Says : Form → Text → ℕ → Option Unsupported → Type 0
-Says form ts at None = IsWide form ts at → ⊥
-Says form ts at (Some what) = IsWide form ts at × IsAdditionAt what ts at
+abbrev pub GoesOnBy : Form → Text → ℕ → Option Unsupported → Type 0
+GoesOnBy form ts at None = IsWide form ts at → ⊥
+GoesOnBy form ts at (Some what) = IsWide form ts at × IsAdditionAt what ts at
 
 -- the same of the checker's own stops
 abbrev pub Names : Text → Halt → Option Unsupported → Type 0
@@ -36,12 +36,12 @@ Names ts halt (Some what) = (halt.wide ≡ true) × IsAdditionAt what ts halt.to
 -- a text of the form, or its first fault
 abbrev pub Checks : {T : Type 0} → Form → Text → Result T Stop → Type 0
 Checks form ts (Ok done) = IsOf false form ts
-Checks form ts (Err stop) = IsFirstFault form ts stop.token × Says form ts stop.token stop.what
+Checks form ts (Err stop) = IsFirstFault form ts stop.token × GoesOnBy form ts stop.token stop.what
 
 -- the longest phrase of the form that begins at this token, or, where none does, the first token at which none goes on
 abbrev pub ChecksFrom : Form → Text → ℕ → Result ℕ Stop → Type 0
 ChecksFrom form ts from (Ok to) = (from ≤ to) × IsLongest form (drop from ts) (to - from)
-ChecksFrom form ts from (Err stop) = (from ≤ stop.token) × IsNoPhrase form (drop from ts) × IsFirstFault form (drop from ts) (stop.token - from) × Says form (drop from ts) (stop.token - from) stop.what
+ChecksFrom form ts from (Err stop) = (from ≤ stop.token) × IsNoPhrase form (drop from ts) × IsFirstFault form (drop from ts) (stop.token - from) × GoesOnBy form (drop from ts) (stop.token - from) stop.what
 
 -- the form of texts that a form of phrases is
 abbrev pub form_of : Phrase → Form

@@ -7,7 +7,7 @@ ghost use Rattle.ad_grammar.specs.Nesting.{nesting};
 ghost use Rattle.ad_base.specs.Limits.{standard};
 ghost use Rattle.ad_check.specs.Machine.{start};
 ghost use Rattle.ad_check.specs.declared.items.Symbol.TheVariants as it;
-ghost use Rattle.ad_check.specs.Stops.{IsAddition, Names, Says, Checks, ChecksFrom, form_of};
+ghost use Rattle.ad_check.specs.Stops.{IsAddition, Names, GoesOnBy, Checks, ChecksFrom, form_of};
 
 use crate::check::{check, check_items};
 use crate::items::{Halt, Nonterminal, Symbol};
@@ -141,7 +141,7 @@ pub fn check_phrase(text: &[u8], tokens: &Tokens, from: u32, phrase: Phrase) -> 
     ensures none { IfErr result (λ stop. IsNoPhrase (form_of phrase) (drop from (lexemes text.now tokens.now))) }
     ensures stop { IfErr result (λ stop. from ≤ stop.token) }
     ensures first { IfErr result (λ stop. IsFirstFault (form_of phrase) (drop from (lexemes text.now tokens.now)) (stop.token - from)) }
-    ensures what { IfErr result (λ stop. Says (form_of phrase) (drop from (lexemes text.now tokens.now)) (stop.token - from) stop.what) }
+    ensures what { IfErr result (λ stop. GoesOnBy (form_of phrase) (drop from (lexemes text.now tokens.now)) (stop.token - from) stop.what) }
 {
     longest(text, tokens.list(), from, phrase.kind())
 }
@@ -156,7 +156,7 @@ pub fn check_class(text: &[u8], tokens: &Tokens, from: u32) -> Result<u32, Stop>
     ensures none { IfErr result (λ stop. IsNoPhrase form.class (drop from (lexemes text.now tokens.now))) }
     ensures stop { IfErr result (λ stop. from ≤ stop.token) }
     ensures first { IfErr result (λ stop. IsFirstFault form.class (drop from (lexemes text.now tokens.now)) (stop.token - from)) }
-    ensures what { IfErr result (λ stop. Says form.class (drop from (lexemes text.now tokens.now)) (stop.token - from) stop.what) }
+    ensures what { IfErr result (λ stop. GoesOnBy form.class (drop from (lexemes text.now tokens.now)) (stop.token - from) stop.what) }
 {
     check_phrase(text, tokens, from, Phrase::Class)
 }
@@ -171,7 +171,7 @@ pub fn check_range(text: &[u8], tokens: &Tokens, from: u32) -> Result<u32, Stop>
     ensures none { IfErr result (λ stop. IsNoPhrase form.range (drop from (lexemes text.now tokens.now))) }
     ensures stop { IfErr result (λ stop. from ≤ stop.token) }
     ensures first { IfErr result (λ stop. IsFirstFault form.range (drop from (lexemes text.now tokens.now)) (stop.token - from)) }
-    ensures what { IfErr result (λ stop. Says form.range (drop from (lexemes text.now tokens.now)) (stop.token - from) stop.what) }
+    ensures what { IfErr result (λ stop. GoesOnBy form.range (drop from (lexemes text.now tokens.now)) (stop.token - from) stop.what) }
 {
     check_phrase(text, tokens, from, Phrase::Range)
 }
@@ -186,7 +186,7 @@ pub fn check_objprop(text: &[u8], tokens: &Tokens, from: u32) -> Result<u32, Sto
     ensures none { IfErr result (λ stop. IsNoPhrase form.property (drop from (lexemes text.now tokens.now))) }
     ensures stop { IfErr result (λ stop. from ≤ stop.token) }
     ensures first { IfErr result (λ stop. IsFirstFault form.property (drop from (lexemes text.now tokens.now)) (stop.token - from)) }
-    ensures what { IfErr result (λ stop. Says form.property (drop from (lexemes text.now tokens.now)) (stop.token - from) stop.what) }
+    ensures what { IfErr result (λ stop. GoesOnBy form.property (drop from (lexemes text.now tokens.now)) (stop.token - from) stop.what) }
 {
     check_phrase(text, tokens, from, Phrase::Property)
 }
@@ -201,7 +201,7 @@ pub fn check_individual(text: &[u8], tokens: &Tokens, from: u32) -> Result<u32, 
     ensures none { IfErr result (λ stop. IsNoPhrase form.individual (drop from (lexemes text.now tokens.now))) }
     ensures stop { IfErr result (λ stop. from ≤ stop.token) }
     ensures first { IfErr result (λ stop. IsFirstFault form.individual (drop from (lexemes text.now tokens.now)) (stop.token - from)) }
-    ensures what { IfErr result (λ stop. Says form.individual (drop from (lexemes text.now tokens.now)) (stop.token - from) stop.what) }
+    ensures what { IfErr result (λ stop. GoesOnBy form.individual (drop from (lexemes text.now tokens.now)) (stop.token - from) stop.what) }
 {
     check_phrase(text, tokens, from, Phrase::Individual)
 }
@@ -217,7 +217,7 @@ pub fn check_literal(text: &[u8], tokens: &Tokens, from: u32) -> Result<u32, Sto
     ensures none { IfErr result (λ stop. IsNoPhrase form.literal (drop from (lexemes text.now tokens.now))) }
     ensures stop { IfErr result (λ stop. from ≤ stop.token) }
     ensures first { IfErr result (λ stop. IsFirstFault form.literal (drop from (lexemes text.now tokens.now)) (stop.token - from)) }
-    ensures what { IfErr result (λ stop. Says form.literal (drop from (lexemes text.now tokens.now)) (stop.token - from) stop.what) }
+    ensures what { IfErr result (λ stop. GoesOnBy form.literal (drop from (lexemes text.now tokens.now)) (stop.token - from) stop.what) }
 {
     check_phrase(text, tokens, from, Phrase::Literal)
 }
@@ -228,7 +228,7 @@ pub fn check_document(text: &[u8], tokens: &Tokens) -> Result<(), Stop>
     requires { AreTokensOf text.now tokens.now }
     ensures ok { IfOk result (λ done. IsOf false form.document (lexemes text.now tokens.now)) }
     ensures first { IfErr result (λ stop. IsFirstFault form.document (lexemes text.now tokens.now) stop.token) }
-    ensures what { IfErr result (λ stop. Says form.document (lexemes text.now tokens.now) stop.token stop.what) }
+    ensures what { IfErr result (λ stop. GoesOnBy form.document (lexemes text.now tokens.now) stop.token stop.what) }
 {
     check_text(
         text,
@@ -246,7 +246,7 @@ pub fn check_edit(text: &[u8], tokens: &Tokens) -> Result<(), Stop>
     requires { AreTokensOf text.now tokens.now }
     ensures ok { IfOk result (λ done. IsOf false form.edit (lexemes text.now tokens.now)) }
     ensures first { IfErr result (λ stop. IsFirstFault form.edit (lexemes text.now tokens.now) stop.token) }
-    ensures what { IfErr result (λ stop. Says form.edit (lexemes text.now tokens.now) stop.token stop.what) }
+    ensures what { IfErr result (λ stop. GoesOnBy form.edit (lexemes text.now tokens.now) stop.token stop.what) }
 {
     check_text(
         text,
@@ -264,7 +264,7 @@ pub fn check_seed(text: &[u8], tokens: &Tokens) -> Result<(), Stop>
     requires { AreTokensOf text.now tokens.now }
     ensures ok { IfOk result (λ done. IsOf false form.seed (lexemes text.now tokens.now)) }
     ensures first { IfErr result (λ stop. IsFirstFault form.seed (lexemes text.now tokens.now) stop.token) }
-    ensures what { IfErr result (λ stop. Says form.seed (lexemes text.now tokens.now) stop.token stop.what) }
+    ensures what { IfErr result (λ stop. GoesOnBy form.seed (lexemes text.now tokens.now) stop.token stop.what) }
 {
     check_text(
         text,
@@ -282,7 +282,7 @@ pub fn check_axiom(text: &[u8], tokens: &Tokens) -> Result<(), Stop>
     requires { AreTokensOf text.now tokens.now }
     ensures ok { IfOk result (λ done. IsOf false form.single (lexemes text.now tokens.now)) }
     ensures first { IfErr result (λ stop. IsFirstFault form.single (lexemes text.now tokens.now) stop.token) }
-    ensures what { IfErr result (λ stop. Says form.single (lexemes text.now tokens.now) stop.token stop.what) }
+    ensures what { IfErr result (λ stop. GoesOnBy form.single (lexemes text.now tokens.now) stop.token stop.what) }
 {
     check_text(
         text,

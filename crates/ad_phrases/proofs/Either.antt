@@ -8,7 +8,7 @@ use Rattle.ad_grammar.specs.Names.{Words}
 use Rattle.ad_grammar.specs.Faults.{Form, IsLongest}
 use Rattle.ad_grammar_laws.specs.Known.{AreKnown}
 use Rattle.ad_prefixes.specs.Unknown.{is_unknown}
-use Rattle.ad_phrases.specs.Phrases.{HasPhrase, IsBuilt, Refuses}
+use Rattle.ad_phrases.specs.Phrases.{HasPhrase, IsBuilt, RefusesPhrase}
 use Rattle.ad_phrases.specs.Laws.{IsBuiltOrRefused}
 use Rattle.ad_phrases.specs.declared.phrases.BuildRefused.{BuildRefused}
 use Rattle.ad_phrases.specs.declared.phrases.BuildRefused.TheVariants as refused_by
@@ -41,11 +41,11 @@ module _ (form : Form) (X : Type 0) (spells : Words → X → Text → Type 0) (
         },
       )
 
-  built_or_refused : ((x : X) × (to : ℕ) × IsBuilt form (spells words) (lexemes text tokens) from x to) ⊎ ((refused : BuildRefused) × (refused ≢ refused_by.Memory) × Refuses form words text tokens from refused)
+  built_or_refused : ((x : X) × (to : ℕ) × IsBuilt form (spells words) (lexemes text tokens) from x to) ⊎ ((refused : BuildRefused) × (refused ≢ refused_by.Memory) × RefusesPhrase form words text tokens from refused)
   built_or_refused = by_find (find (λ t. is_unknown words (lexeme text t)) (take size (drop from tokens))) refl
     where
       by_find : (o : Option Token) → find (λ t. is_unknown words (lexeme text t)) (take size (drop from tokens)) ≡ o
-          → ((x : X) × (to : ℕ) × IsBuilt form (spells words) (lexemes text tokens) from x to) ⊎ ((refused : BuildRefused) × (refused ≢ refused_by.Memory) × Refuses form words text tokens from refused)
+          → ((x : X) × (to : ℕ) × IsBuilt form (spells words) (lexemes text tokens) from x to) ⊎ ((refused : BuildRefused) × (refused ≢ refused_by.Memory) × RefusesPhrase form words text tokens from refused)
       by_find None e = inl (known_tree (subst (AreKnown words) (front_says text tokens from size) (none_found words text (take size (drop from tokens)) e)))
       by_find (Some t) e = inr (refused_by.Prefix t.from, a_cause (refused_by.Prefix t.from) refl, (t, record { size = size; longest = longest; first = first_found words text (take size (drop from tokens)) t e }, refl))
 

@@ -10,7 +10,7 @@ use Rattle.ad_grammar.specs.Faults.{Form}
 use Rattle.ad_grammar_laws.specs.Known.{IsKnown, AreKnown}
 use Rattle.ad_grammar_laws.proofs.Words.{known_second}
 use Rattle.ad_check.proofs.Longest.{one_end}
-use Rattle.ad_phrases.specs.Phrases.{IsBuilt, IsBuiltOrMemory, IsUnknownIn, IsPrefixOrMemory, Refuses}
+use Rattle.ad_phrases.specs.Phrases.{IsBuilt, IsBuiltOrMemory, IsUnknownIn, IsPrefixOrMemory, RefusesPhrase}
 use Rattle.ad_phrases.specs.Laws.{IsBuiltOnce, IsNotRefused, IsRefusedOnce}
 use Rattle.ad_phrases.specs.declared.phrases.BuildRefused.{BuildRefused}
 use Rattle.ad_phrases.specs.declared.phrases.BuildRefused.TheVariants as refused_by
@@ -54,11 +54,11 @@ module _ (form : Form) (X : Type 0) (spells : Words → X → Text → Type 0) (
 
   module _ (words : Words) (text : List ℕ) (tokens : List Token) (from : ℕ) where
     -- what an answer says makes it the only one, want of memory aside
-    pub all_built : (result : Result (X × ℕ) BuildRefused) → IfOk result (λ built. IsBuilt form (spells words) (lexemes text tokens) from built.0 built.1) → IfErr result (Refuses form words text tokens from) → (x : X) (to : ℕ) → IsBuilt form (spells words) (lexemes text tokens) from x to → IsBuiltOrMemory result x to
+    pub all_built : (result : Result (X × ℕ) BuildRefused) → IfOk result (λ built. IsBuilt form (spells words) (lexemes text tokens) from built.0 built.1) → IfErr result (RefusesPhrase form words text tokens from) → (x : X) (to : ℕ) → IsBuilt form (spells words) (lexemes text tokens) from x to → IsBuiltOrMemory result x to
     all_built (Ok built) ok err x to h = built_once words (lexemes text tokens) from built.0 x built.1 to ok h
     all_built (Err refused) ok err x to h = not_refused words text tokens from x to refused h err
 
-    pub all_refused : (result : Result (X × ℕ) BuildRefused) → IfOk result (λ built. IsBuilt form (spells words) (lexemes text tokens) from built.0 built.1) → IfErr result (Refuses form words text tokens from) → (token : Token) → IsUnknownIn form words text tokens from token → IsPrefixOrMemory result token.from
+    pub all_refused : (result : Result (X × ℕ) BuildRefused) → IfOk result (λ built. IsBuilt form (spells words) (lexemes text tokens) from built.0 built.1) → IfErr result (RefusesPhrase form words text tokens from) → (token : Token) → IsUnknownIn form words text tokens from token → IsPrefixOrMemory result token.from
     all_refused (Ok built) ok err token u = absurd (not_unknown words text tokens from built.0 built.1 token ok u)
     all_refused (Err (refused_by.Prefix at)) ok (other, u', e) token u = e ∙ ap (λ t. t.from) (unknown_once form words text tokens from other token u' u)
     all_refused (Err refused_by.Memory) ok err token u = tt

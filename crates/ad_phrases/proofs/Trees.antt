@@ -24,7 +24,7 @@ use Rattle.ad_prefixes.specs.Unknown.{is_unknown}
 use Rattle.ad_build.proofs.Phrases.{properties_read, individuals_read, literals_read, ranges_read}
 use Rattle.ad_build.proofs.ClassPhrases.{classes_read}
 use Rattle.ad_build.proofs.Uniqueness.{once}
-use Rattle.ad_phrases.specs.Phrases.{IsBuilt, IsFirstUnknown, Refuses, RefusesIn}
+use Rattle.ad_phrases.specs.Phrases.{IsBuilt, IsFirstUnknown, RefusesPhrase, RefusesIn}
 use Rattle.ad_phrases.specs.declared.phrases.BuildRefused.{BuildRefused}
 use Rattle.ad_phrases.specs.declared.phrases.BuildRefused.TheVariants as refused_by
 
@@ -137,6 +137,6 @@ module _ (text : List ℕ) (tokens : List Token) (from to : ℕ) (order : from �
         (moved.0, is moved.0 (subst (spells words moved.0) (sym says_so) moved.1), record { after = order; longest = longest; spelled = moved.1 })
 
     -- the name that keeps it from being built
-    pub name_found : (phrase : List Token) → phrase ≡ drop from (take to tokens) → (refused : BuildRefused) → RefusesIn words text phrase refused → Refuses form words text tokens from refused
+    pub name_found : (phrase : List Token) → phrase ≡ drop from (take to tokens) → (refused : BuildRefused) → RefusesIn words text phrase refused → RefusesPhrase form words text tokens from refused
     name_found phrase e (refused_by.Prefix at) (token, first, place) = (token, record { size = to - from; longest = longest; first = subst (λ us. IsFirstUnknown words text us token) (e ∙ phrase_is) first }, place)
     name_found phrase e refused_by.Memory h = absurd h

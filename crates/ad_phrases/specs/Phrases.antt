@@ -34,9 +34,9 @@ pub record IsUnknownIn (form : Form) (words : Words) (text : List ℕ) (tokens :
   pub first : IsFirstUnknown words text (take size (drop from tokens)) token
 
 -- a phrase of the form that begins at a token is not built for this cause
-abbrev pub Refuses : Form → Words → List ℕ → List Token → ℕ → BuildRefused → Type 0
-Refuses form words text tokens from (Prefix at) = (token : Token) × IsUnknownIn form words text tokens from token × (at ≡ token.from)
-Refuses form words text tokens from Memory = Unit {0}
+abbrev pub RefusesPhrase : Form → Words → List ℕ → List Token → ℕ → BuildRefused → Type 0
+RefusesPhrase form words text tokens from (Prefix at) = (token : Token) × IsUnknownIn form words text tokens from token × (at ≡ token.from)
+RefusesPhrase form words text tokens from Memory = Unit {0}
 
 -- the same, where the tokens of the phrase are given
 abbrev pub RefusesIn : Words → List ℕ → List Token → BuildRefused → Type 0

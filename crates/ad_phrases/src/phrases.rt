@@ -14,7 +14,7 @@ ghost use Rattle.ad_grammar.specs.Faults as form;
 ghost use Rattle.ad_grammar.specs.Nesting.{nesting};
 ghost use Rattle.ad_grammar_laws.specs.Known.{AreKnown};
 ghost use Rattle.ad_prefixes.specs.Declarations.{declarations};
-ghost use Rattle.ad_phrases.specs.Phrases.{HasPhrase, IsBuilt, IsBuiltOrMemory, IsUnknownIn, IsPrefixOrMemory, Refuses, RefusesIn};
+ghost use Rattle.ad_phrases.specs.Phrases.{HasPhrase, IsBuilt, IsBuiltOrMemory, IsUnknownIn, IsPrefixOrMemory, RefusesPhrase, RefusesIn};
 
 use crate::ends::{behind_class, behind_individual, behind_literal, behind_objprop, behind_range};
 use ad_base::Memory;
@@ -58,7 +58,7 @@ pub fn build_class(
     requires phrase { HasPhrase form.class (drop from (lexemes text.now tokens.now)) }
     ensures built { IfOk result (λ built. IsBuilt form.class (SpellsClass false (in_force (declarations prefixes.now))) (lexemes text.now tokens.now) from built.0 built.1) }
     ensures complete { (x : Class) (to : ℕ) → IsBuilt form.class (SpellsClass false (in_force (declarations prefixes.now))) (lexemes text.now tokens.now) from x to → IsBuiltOrMemory result x to }
-    ensures refused { IfErr result (Refuses form.class (in_force (declarations prefixes.now)) text.now tokens.now from) }
+    ensures refused { IfErr result (RefusesPhrase form.class (in_force (declarations prefixes.now)) text.now tokens.now from) }
     ensures first { (token : Token) → IsUnknownIn form.class (in_force (declarations prefixes.now)) text.now tokens.now from token → IsPrefixOrMemory result token.from }
 {
     let to = behind_class(text, tokens, from);
@@ -84,7 +84,7 @@ pub fn build_range(
     requires phrase { HasPhrase form.range (drop from (lexemes text.now tokens.now)) }
     ensures built { IfOk result (λ built. IsBuilt form.range (SpellsRange (in_force (declarations prefixes.now))) (lexemes text.now tokens.now) from built.0 built.1) }
     ensures complete { (x : Range) (to : ℕ) → IsBuilt form.range (SpellsRange (in_force (declarations prefixes.now))) (lexemes text.now tokens.now) from x to → IsBuiltOrMemory result x to }
-    ensures refused { IfErr result (Refuses form.range (in_force (declarations prefixes.now)) text.now tokens.now from) }
+    ensures refused { IfErr result (RefusesPhrase form.range (in_force (declarations prefixes.now)) text.now tokens.now from) }
     ensures first { (token : Token) → IsUnknownIn form.range (in_force (declarations prefixes.now)) text.now tokens.now from token → IsPrefixOrMemory result token.from }
 {
     let to = behind_range(text, tokens, from);
@@ -110,7 +110,7 @@ pub fn build_objprop(
     requires phrase { HasPhrase form.property (drop from (lexemes text.now tokens.now)) }
     ensures built { IfOk result (λ built. IsBuilt form.property (SpellsProperty (in_force (declarations prefixes.now))) (lexemes text.now tokens.now) from built.0 built.1) }
     ensures complete { (x : ObjProp) (to : ℕ) → IsBuilt form.property (SpellsProperty (in_force (declarations prefixes.now))) (lexemes text.now tokens.now) from x to → IsBuiltOrMemory result x to }
-    ensures refused { IfErr result (Refuses form.property (in_force (declarations prefixes.now)) text.now tokens.now from) }
+    ensures refused { IfErr result (RefusesPhrase form.property (in_force (declarations prefixes.now)) text.now tokens.now from) }
     ensures first { (token : Token) → IsUnknownIn form.property (in_force (declarations prefixes.now)) text.now tokens.now from token → IsPrefixOrMemory result token.from }
 {
     let to = behind_objprop(text, tokens, from);
@@ -136,7 +136,7 @@ pub fn build_individual(
     requires phrase { HasPhrase form.individual (drop from (lexemes text.now tokens.now)) }
     ensures built { IfOk result (λ built. IsBuilt form.individual (SpellsIndividual (in_force (declarations prefixes.now))) (lexemes text.now tokens.now) from built.0 built.1) }
     ensures complete { (x : Individual) (to : ℕ) → IsBuilt form.individual (SpellsIndividual (in_force (declarations prefixes.now))) (lexemes text.now tokens.now) from x to → IsBuiltOrMemory result x to }
-    ensures refused { IfErr result (Refuses form.individual (in_force (declarations prefixes.now)) text.now tokens.now from) }
+    ensures refused { IfErr result (RefusesPhrase form.individual (in_force (declarations prefixes.now)) text.now tokens.now from) }
     ensures first { (token : Token) → IsUnknownIn form.individual (in_force (declarations prefixes.now)) text.now tokens.now from token → IsPrefixOrMemory result token.from }
 {
     let to = behind_individual(text, tokens, from);
@@ -162,7 +162,7 @@ pub fn build_literal(
     requires phrase { HasPhrase form.literal (drop from (lexemes text.now tokens.now)) }
     ensures built { IfOk result (λ built. IsBuilt form.literal (SpellsLiteral (in_force (declarations prefixes.now))) (lexemes text.now tokens.now) from built.0 built.1) }
     ensures complete { (x : Literal) (to : ℕ) → IsBuilt form.literal (SpellsLiteral (in_force (declarations prefixes.now))) (lexemes text.now tokens.now) from x to → IsBuiltOrMemory result x to }
-    ensures refused { IfErr result (Refuses form.literal (in_force (declarations prefixes.now)) text.now tokens.now from) }
+    ensures refused { IfErr result (RefusesPhrase form.literal (in_force (declarations prefixes.now)) text.now tokens.now from) }
     ensures first { (token : Token) → IsUnknownIn form.literal (in_force (declarations prefixes.now)) text.now tokens.now from token → IsPrefixOrMemory result token.from }
 {
     let to = behind_literal(text, tokens, from);

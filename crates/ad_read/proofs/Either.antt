@@ -18,7 +18,7 @@ use Rattle.ad_grammar.specs.Shapes.{Text}
 use Rattle.ad_grammar.specs.Texts.{Declared, AreDistinct, iri_of, in_force, SpellsEdit, SpellsSeed, SpellsSingle}
 use Rattle.ad_grammar.specs.Faults.{Form, document, edit, seed, single, IsOf, IsFirstFault, IsWide, Tells}
 use Rattle.ad_check.specs.Machine.{fault, start}
-use Rattle.ad_check.specs.Stops.{IsAddition, Says}
+use Rattle.ad_check.specs.Stops.{IsAddition, GoesOnBy}
 use Rattle.ad_check.specs.declared.items.Halt.{Halt}
 use Rattle.ad_check.specs.declared.texts.Unsupported.{Unsupported}
 use Rattle.ad_check.specs.declared.texts.Unsupported.TheVariants.{Import, Rule, Nary}
@@ -78,7 +78,7 @@ told t = by_plain (is_plain t) refl
 
 -- a text is of the form, or has a first fault
 abbrev Stops : Form → Text → Type 0
-Stops form ts = (at : ℕ) × (what : Option Unsupported) × IsFirstFault form ts at × Says form ts at what
+Stops form ts = (at : ℕ) × (what : Option Unsupported) × IsFirstFault form ts at × GoesOnBy form ts at what
 
 stops : (form : Form) (ts : Text) (stop : Halt) → fault 0 (start form) ts ≡ Some stop → Stops form ts
 stops form ts stop h = by_wide stop.wide refl

@@ -14,7 +14,7 @@ use Rattle.ad_grammar.specs.Names.{Words, SpellsEntity}
 use Rattle.ad_grammar.specs.Axioms.{SpellsNoted}
 use Rattle.ad_grammar.specs.Texts.{AreDistinct, iri_of, in_force, Ontology, SpellsOp}
 use Rattle.ad_grammar.specs.Faults.{Form, IsFirstFault}
-use Rattle.ad_check.specs.Stops.{Says}
+use Rattle.ad_check.specs.Stops.{GoesOnBy}
 use Rattle.ad_check.specs.declared.texts.Stop.{Stop}
 use Rattle.ad_grammar_laws.specs.Known.{IsKnown, AreKnown}
 use Rattle.ad_prefixes.specs.Declarations.{declarations}
@@ -242,9 +242,9 @@ module _ (limit : ℕ) (text : List ℕ) (tokens : List Token) (prefixes : List 
   single_is o noted x e = subst (IsSingle limit text) (sym e) (record { tokens = tokens; shallow = o.formed.shallow; declared = declarations prefixes; once = o.once; spelled = (x.1, (text_of (declarations prefixes), lexemes text (drop behind tokens), opened_is Single o, is_text (declarations prefixes), x.2)) })
 
 -- the refusal of a first fault
-pub refusal_is : (form : Form) (limit : ℕ) (text : List ℕ) (tokens list : List Token) (stop : Stop) (refused : ReadRefused) → IsShallow form limit text tokens → IsFirstFault form (lexemes text tokens) stop.token → Says form (lexemes text tokens) stop.token stop.what → list ≡ tokens → IsRefusalOf text list stop refused → Refuses form limit text refused
-refusal_is form limit text tokens list stop (refused_by.Syntax at) shallow first says same (none, e) = (tokens, shallow, stop.token, first, subst (Says form (lexemes text tokens) stop.token) none says, e ∙ ap (λ us. place text us stop.token) same)
-refusal_is form limit text tokens list stop (refused_by.Unsupported at what) shallow first says same (some, e) = (tokens, shallow, stop.token, first, subst (Says form (lexemes text tokens) stop.token) some says, e ∙ ap (λ us. place text us stop.token) same)
+pub refusal_is : (form : Form) (limit : ℕ) (text : List ℕ) (tokens list : List Token) (stop : Stop) (refused : ReadRefused) → IsShallow form limit text tokens → IsFirstFault form (lexemes text tokens) stop.token → GoesOnBy form (lexemes text tokens) stop.token stop.what → list ≡ tokens → IsRefusalOf text list stop refused → Refuses form limit text refused
+refusal_is form limit text tokens list stop (refused_by.Syntax at) shallow first says same (none, e) = (tokens, shallow, stop.token, first, subst (GoesOnBy form (lexemes text tokens) stop.token) none says, e ∙ ap (λ us. place text us stop.token) same)
+refusal_is form limit text tokens list stop (refused_by.Unsupported at what) shallow first says same (some, e) = (tokens, shallow, stop.token, first, subst (GoesOnBy form (lexemes text tokens) stop.token) some says, e ∙ ap (λ us. place text us stop.token) same)
 refusal_is form limit text tokens list stop (refused_by.Lex fault) shallow first says same h = absurd h
 refusal_is form limit text tokens list stop (refused_by.Depth n) shallow first says same h = absurd h
 refusal_is form limit text tokens list stop (refused_by.Prefix at) shallow first says same h = absurd h

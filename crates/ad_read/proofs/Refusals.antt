@@ -14,7 +14,7 @@ use Rattle.ad_grammar.specs.Shapes.{Text}
 use Rattle.ad_grammar.specs.Texts.{Declared, AreDistinct, iri_of, in_force}
 use Rattle.ad_grammar.specs.Faults.{Form, IsFirstFault}
 use Rattle.ad_grammar_laws.specs.Known.{IsKnown, AreKnown}
-use Rattle.ad_check.specs.Stops.{IsAddition, IsAdditionAt, Says}
+use Rattle.ad_check.specs.Stops.{IsAddition, IsAdditionAt, GoesOnBy}
 use Rattle.ad_check.specs.declared.texts.Unsupported.{Unsupported}
 use Rattle.ad_check.specs.declared.texts.Unsupported.TheVariants.{Import, Rule, Nary}
 use Rattle.ad_check.proofs.Decided.{one_fault}
@@ -54,7 +54,7 @@ addition_once Nary Nary t h h' = refl
 addition_at_once : (what other : Unsupported) (ts : Text) (at : ℕ) → IsAdditionAt what ts at → IsAdditionAt other ts at → what ≡ other
 addition_at_once what other ts at (t, rest, e, h) (t', rest', e', h') = addition_once what other t h (subst (IsAddition other) (ap first_in (sym e' ∙ e)) h')
 
-says_once : (form : Form) (ts : Text) (at : ℕ) (what other : Option Unsupported) → Says form ts at what → Says form ts at other → what ≡ other
+says_once : (form : Form) (ts : Text) (at : ℕ) (what other : Option Unsupported) → GoesOnBy form ts at what → GoesOnBy form ts at other → what ≡ other
 says_once form ts at None None h h' = refl
 says_once form ts at None (Some other) h h' = absurd (h h'.0)
 says_once form ts at (Some what) None h h' = absurd (h' h.0)
@@ -152,7 +152,7 @@ module _ (form : Form) (limit : ℕ) (text : List ℕ) where
       let same : tokens' ≡ tokens = lexed_once text tokens' tokens shallow'.lexed shallow.lexed in
       let here : IsFirstFault form (lexemes text tokens) token' = subst (λ ts. IsFirstFault form (lexemes text ts) token') same first' in
       let t : token' ≡ token = one_fault form (lexemes text tokens) token' token here first in
-      let told : Says form (lexemes text tokens) token what' = subst (λ k. Says form (lexemes text tokens) k what') t (subst (λ ts. Says form (lexemes text ts) token' what') same said') in
+      let told : GoesOnBy form (lexemes text tokens) token what' = subst (λ k. GoesOnBy form (lexemes text tokens) k what') t (subst (λ ts. GoesOnBy form (lexemes text ts) token' what') same said') in
       (e ∙ sym (e' ∙ ap (λ ts. place text ts token') same ∙ ap (place text tokens) t), says_once form (lexemes text tokens) token what what' said told)
 
   stop_or_formed : (at : ℕ) (what : Option Unsupported) (tokens : List Token) → StopsAt form limit text at what → IsFormed form limit text tokens → ⊥

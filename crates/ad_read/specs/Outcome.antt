@@ -4,7 +4,7 @@ use Rattle.ad_lex.specs.Lexed.{IsLexed, IsFault}
 use Rattle.ad_lex.specs.Lexemes.{lexemes}
 use Rattle.ad_lex.specs.declared.token.Token.{Token}
 use Rattle.ad_grammar.specs.Faults.{Form, IsFirstFault}
-use Rattle.ad_check.specs.Stops.{Says}
+use Rattle.ad_check.specs.Stops.{GoesOnBy}
 use Rattle.ad_check.specs.declared.texts.Unsupported.{Unsupported}
 use Rattle.ad_read.specs.Prefixed.{IsDeclaredTwice, IsUnknown}
 use Rattle.ad_read.specs.Texts.{depth, IsShallow, IsFormed, place}
@@ -13,7 +13,7 @@ use Rattle.ad_read.specs.declared.texts.ReadRefused.TheVariants.{Lex, Depth, Syn
 
 -- the text's first fault of the form, with the part of the wide grammar that goes on there, if one does
 abbrev pub StopsAt : Form → ℕ → List ℕ → ℕ → Option Unsupported → Type 0
-StopsAt form limit text at what = (tokens : List Token) × IsShallow form limit text tokens × (token : ℕ) × IsFirstFault form (lexemes text tokens) token × Says form (lexemes text tokens) token what × (at ≡ place text tokens token)
+StopsAt form limit text at what = (tokens : List Token) × IsShallow form limit text tokens × (token : ℕ) × IsFirstFault form (lexemes text tokens) token × GoesOnBy form (lexemes text tokens) token what × (at ≡ place text tokens token)
 
 -- A text of this form is refused for this cause. Each cause comes after those above it: a text with a fault in
 -- its tokens has no nesting, one that nests too deep is not compared with the grammar, and the prefixes of one

@@ -1,5 +1,5 @@
 -- The replies of a session, and the bytes of each.
-use Rattle.std.specs.Prelude.{ℕ, List, [], ◌∷◌, ◌++◌, length, codes, decimal}
+use Rattle.std.specs.Prelude.{ℕ, List, [], ◌∷◌, ◌++◌, Option, None, Some, length, codes, decimal}
 use Rattle.ad_base.specs.declared.limits.Which.{Which}
 use Rattle.ad_base.specs.declared.limits.Which.TheVariants as limits
 use Rattle.ad_check.specs.declared.texts.Unsupported.{Unsupported}
@@ -8,10 +8,14 @@ use Rattle.ad_lex.specs.declared.token.LexFault.{LexFault}
 use Rattle.ad_lex.specs.declared.token.LexFault.TheVariants as faults
 use Rattle.ad_read.specs.declared.texts.ReadRefused.{ReadRefused}
 use Rattle.ad_read.specs.declared.texts.ReadRefused.TheVariants as texts
+use Rattle.ad_write.specs.Keywords as kw
 use Rattle.ad_edition.specs.Apply.{Counts}
 use Rattle.ad_edition.specs.declared.receipts.Receipt.{Receipt}
+use Rattle.ad_reply.specs.declared.cause.Cause.{Cause}
+use Rattle.ad_reply.specs.declared.cause.Cause.TheVariants as causes
 use Rattle.ad_reply.specs.declared.refusal.Refusal.{Refusal}
 use Rattle.ad_reply.specs.declared.refusal.Refusal.TheVariants as refusals
+use Rattle.ad_reply.specs.Causes.{number_word}
 
 pub data Reply : Type 0 where
   -- what was asked for, on the edition of this number
@@ -43,28 +47,54 @@ which_word limits.Bytes = codes "bytes"
 which_word limits.Editions = codes "editions"
 which_word limits.Payload = codes "payload"
 
+-- words behind others on a line: a space before each, and a line feed
+abbrev pub behind : List (List ℕ) → List ℕ
+behind [] = 10 ∷ []
+behind (word ∷ words) = 32 ∷ word ++ behind words
+
 -- words with one space between them, and a line feed
 abbrev pub line_of : List (List ℕ) → List ℕ
 line_of [] = 10 ∷ []
-line_of (word ∷ []) = word ++ 10 ∷ []
-line_of (word ∷ next ∷ words) = word ++ 32 ∷ line_of (next ∷ words)
+line_of (word ∷ words) = word ++ behind words
 
 -- the line before a body: the number of the edition, and how many bytes the body has
 abbrev pub answer_line : ℕ → ℕ → List ℕ
 answer_line edition bytes = line_of (codes "OK" ∷ decimal edition ∷ decimal bytes ∷ [])
 
--- why something is refused, in words: a code, and what the code says. An answer refuses nothing.
+-- why a reply refuses; an answer refuses nothing
+abbrev pub cause_of : Reply → Option Cause
+cause_of (answered edition body) = None
+cause_of no_request = Some causes.Request
+cause_of (faulty_text at) = Some causes.Syntax
+cause_of (too_deep nesting) = Some causes.Depth
+cause_of (faulty_prefix at) = Some causes.Prefix
+cause_of (unsupported at word) = Some causes.Unsupported
+cause_of (limited edition which count) = Some causes.Limit
+cause_of (no_atom edition count) = Some causes.Atom
+cause_of no_memory = Some causes.Memory
+cause_of shut = Some causes.Shut
+
+-- what there is to say of the cause
+abbrev pub details : Reply → List (List ℕ)
+details (answered edition body) = []
+details no_request = []
+details (faulty_text at) = decimal at ∷ []
+details (too_deep nesting) = decimal nesting ∷ []
+details (faulty_prefix at) = decimal at ∷ []
+details (unsupported at word) = decimal at ∷ word ∷ []
+details (limited edition which count) = decimal edition ∷ which_word which ∷ decimal count ∷ []
+details (no_atom edition count) = decimal edition ∷ decimal count ∷ []
+details no_memory = []
+details shut = []
+
+-- a cause in words: its number, and what there is to say of it
+abbrev pub words_of : Option Cause → List (List ℕ) → List (List ℕ)
+words_of None words = []
+words_of (Some cause) words = number_word cause ∷ words
+
+-- why something is refused, in words. An answer refuses nothing
 abbrev pub cause_words : Reply → List (List ℕ)
-cause_words (answered edition body) = []
-cause_words no_request = codes "10" ∷ []
-cause_words (faulty_text at) = codes "20" ∷ decimal at ∷ []
-cause_words (too_deep nesting) = codes "21" ∷ decimal nesting ∷ []
-cause_words (faulty_prefix at) = codes "22" ∷ decimal at ∷ []
-cause_words (unsupported at word) = codes "23" ∷ decimal at ∷ word ∷ []
-cause_words (limited edition which count) = codes "30" ∷ decimal edition ∷ which_word which ∷ decimal count ∷ []
-cause_words (no_atom edition count) = codes "41" ∷ decimal edition ∷ decimal count ∷ []
-cause_words no_memory = codes "90" ∷ []
-cause_words shut = codes "91" ∷ []
+cause_words reply = words_of (cause_of reply) (details reply)
 
 -- the line of a refusal
 abbrev pub refusal_line : Reply → List ℕ
@@ -103,8 +133,8 @@ fault_place (faults.OpenIri at) = at
 
 -- the word of what is not read
 abbrev pub unsupported_word : Unsupported → List ℕ
-unsupported_word parts.Import = codes "Import"
-unsupported_word parts.Rule = codes "DLSafeRule"
+unsupported_word parts.Import = kw.Import
+unsupported_word parts.Rule = kw.DLSafeRule
 unsupported_word parts.Nary = codes "n-ary"
 
 -- the reply to a text that is not read

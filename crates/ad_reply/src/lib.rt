@@ -2,9 +2,11 @@
 #![tactic(auto)]
 
 pub use answers::{edit_reply, export_reply, module_reply};
+pub use cause::{Cause, causes_differ};
 pub use refusal::{Refusal, explain, refuse};
 
 mod answers;
+mod cause;
 mod counts;
 mod decimal;
 mod refusal;

@@ -1,12 +1,14 @@
-ghost use Rattle.std.specs.Prelude.{◌≡◌, ◌++◌, ◌∷◌, [], decimal};
+ghost use Rattle.std.specs.Prelude.{◌≡◌, ◌∷◌, [], Some, decimal};
 ghost use Rattle.ad_io.specs.Sink.{Puts, PutCause};
-ghost use Rattle.ad_reply.specs.Replies.{cause_words, fault_place, limited, line_of, refused, reply_bytes, unread_text, unsupported, unsupported_word, which_word};
+ghost use Rattle.ad_reply.specs.Replies.{behind, cause_of, cause_words, details, fault_place, line_of, refused, reply_bytes, unread_text, unsupported_word, which_word};
 
+use crate::cause::Cause;
 use crate::decimal::Decimal;
 use ad_base::Which;
 use ad_io::{Sink, Wrote, put_all, put_each};
 use ad_lex::LexFault;
 use ad_read::{ReadRefused, Unsupported};
+use ad_write::keywords;
 
 /// Why a line, or a line with its payload, isn't answered.
 #[derive(Clone, Copy)]
@@ -27,6 +29,34 @@ pub enum Refusal {
     Shut,
 }
 
+impl Refusal {
+    /// The cause, which says what the number of the refusal is.
+    pub fn cause(self) -> Cause
+        ensures { cause_of (refused self) ≡ Some result }
+    {
+        match self {
+            Refusal::Request => Cause::Request,
+            Refusal::Text(cause) => cause_of_text(cause),
+            Refusal::Limit { .. } => Cause::Limit,
+            Refusal::Memory => Cause::Memory,
+            Refusal::Shut => Cause::Shut,
+        }
+    }
+}
+
+// The cause of a text that isn't read.
+fn cause_of_text(cause: ReadRefused) -> Cause
+    ensures { cause_of (unread_text cause) ≡ Some result }
+{
+    match cause {
+        ReadRefused::Lex(_) | ReadRefused::Syntax { .. } => Cause::Syntax,
+        ReadRefused::Depth { .. } => Cause::Depth,
+        ReadRefused::Unsupported { .. } => Cause::Unsupported,
+        ReadRefused::Prefix { .. } | ReadRefused::PrefixTwice { .. } => Cause::Prefix,
+        ReadRefused::Memory => Cause::Memory,
+    }
+}
+
 /// Writes the line of the refusal. It takes no memory.
 pub fn refuse<K: Sink>(refusal: Refusal, sink: &mut K) -> Wrote
     ensures bytes { Puts (K.written sink.old) (K.written sink.new) result (reply_bytes (refused refusal)) }
@@ -38,65 +68,73 @@ pub fn refuse<K: Sink>(refusal: Refusal, sink: &mut K) -> Wrote
     }
 }
 
-/// Writes the line of the refusal without its first word: a code, and what the code says. It takes no memory.
+/// Writes the line of the refusal without its first word: the number of the cause, and what there is to say of it. It
+/// takes no memory.
 pub fn explain<K: Sink>(refusal: Refusal, sink: &mut K) -> Wrote
     ensures bytes { Puts (K.written sink.old) (K.written sink.new) result (line_of (cause_words (refused refusal))) }
     ensures cause { PutCause (K.faults sink.old) (K.faults sink.new) result }
 {
+    match put_all(sink, refusal.cause().number()) {
+        Wrote::All => put_details(refusal, sink),
+        Wrote::Failed => Wrote::Failed,
+    }
+}
+
+// Writes what there is to say of the cause, behind its number.
+fn put_details<K: Sink>(refusal: Refusal, sink: &mut K) -> Wrote
+    ensures bytes { Puts (K.written sink.old) (K.written sink.new) result (behind (details (refused refusal))) }
+    ensures cause { PutCause (K.faults sink.old) (K.faults sink.new) result }
+{
     match refusal {
-        Refusal::Request => put_all(sink, b"10\n"),
         Refusal::Text(cause) => put_text(cause, sink),
         Refusal::Limit {
             edition,
             which,
             count,
         } => put_limit(edition, which, count, sink),
-        Refusal::Memory => put_all(sink, b"90\n"),
-        Refusal::Shut => put_all(sink, b"91\n"),
+        Refusal::Request | Refusal::Memory | Refusal::Shut => put_all(sink, b"\n"),
     }
 }
 
-// Writes why a text isn't read.
+// Writes what there is to say of a text that isn't read.
 fn put_text<K: Sink>(cause: ReadRefused, sink: &mut K) -> Wrote
-    ensures bytes { Puts (K.written sink.old) (K.written sink.new) result (line_of (cause_words (unread_text cause))) }
+    ensures bytes { Puts (K.written sink.old) (K.written sink.new) result (behind (details (unread_text cause))) }
     ensures cause { PutCause (K.faults sink.old) (K.faults sink.new) result }
 {
     match cause {
-        ReadRefused::Lex(fault) => put_number(b"20 ", fault_place(fault), sink),
-        ReadRefused::Depth { nesting } => put_number(b"21 ", nesting, sink),
-        ReadRefused::Syntax { at } => put_number(b"20 ", at, sink),
+        ReadRefused::Lex(fault) => put_number(fault_place(fault), sink),
+        ReadRefused::Depth { nesting } => put_number(nesting, sink),
         ReadRefused::Unsupported { at, what } => put_unsupported(at, what, sink),
-        ReadRefused::Prefix { at } | ReadRefused::PrefixTwice { at } => {
-            put_number(b"22 ", at, sink)
-        }
-        ReadRefused::Memory => put_all(sink, b"90\n"),
+        ReadRefused::Syntax { at } | ReadRefused::Prefix { at } | ReadRefused::PrefixTwice { at } =>
+            put_number(at, sink),
+        ReadRefused::Memory => put_all(sink, b"\n"),
     }
 }
 
-// Writes a code with a space behind it, a number, and a line feed.
-fn put_number<K: Sink>(code: &[u8], number: u32, sink: &mut K) -> Wrote
-    ensures bytes { Puts (K.written sink.old) (K.written sink.new) result (code.now ++ (decimal number ++ 10 ∷ [])) }
+// Writes a number behind a word, and a line feed.
+fn put_number<K: Sink>(number: u32, sink: &mut K) -> Wrote
+    ensures bytes { Puts (K.written sink.old) (K.written sink.new) result (behind (decimal number ∷ [])) }
     ensures cause { PutCause (K.faults sink.old) (K.faults sink.new) result }
 {
     let number = Decimal::of(u64::from(number));
-    put_each(sink, &[code, number.as_bytes(), b"\n"])
+    put_each(sink, &[b" ", number.as_bytes(), b"\n"])
 }
 
 // Writes that what stands at this place isn't read.
 fn put_unsupported<K: Sink>(at: u32, what: Unsupported, sink: &mut K) -> Wrote
-    ensures bytes { Puts (K.written sink.old) (K.written sink.new) result (line_of (cause_words (unsupported at (unsupported_word what)))) }
+    ensures bytes { Puts (K.written sink.old) (K.written sink.new) result (behind (decimal at ∷ unsupported_word what ∷ [])) }
     ensures cause { PutCause (K.faults sink.old) (K.faults sink.new) result }
 {
     let at = Decimal::of(u64::from(at));
     put_each(
         sink,
-        &[b"23 ", at.as_bytes(), b" ", unsupported_word(what), b"\n"],
+        &[b" ", at.as_bytes(), b" ", unsupported_word(what), b"\n"],
     )
 }
 
 // Writes the passed limit.
 fn put_limit<K: Sink>(edition: u32, which: Which, count: u64, sink: &mut K) -> Wrote
-    ensures bytes { Puts (K.written sink.old) (K.written sink.new) result (line_of (cause_words (limited edition which count))) }
+    ensures bytes { Puts (K.written sink.old) (K.written sink.new) result (behind (decimal edition ∷ which_word which ∷ decimal count ∷ [])) }
     ensures cause { PutCause (K.faults sink.old) (K.faults sink.new) result }
 {
     let edition = Decimal::of(u64::from(edition));
@@ -104,7 +142,7 @@ fn put_limit<K: Sink>(edition: u32, which: Which, count: u64, sink: &mut K) -> W
     put_each(
         sink,
         &[
-            b"30 ",
+            b" ",
             edition.as_bytes(),
             b" ",
             word_of(which),
@@ -132,8 +170,8 @@ fn unsupported_word(what: Unsupported) -> &'static [u8]
     ensures { result.now ≡ unsupported_word what }
 {
     match what {
-        Unsupported::Import => b"Import",
-        Unsupported::Rule => b"DLSafeRule",
+        Unsupported::Import => keywords::IMPORT.as_bytes(),
+        Unsupported::Rule => keywords::DL_SAFE_RULE.as_bytes(),
         Unsupported::Nary => b"n-ary",
     }
 }

@@ -2,14 +2,9 @@
 use Rattle.std.specs.Prelude.{◌≡◌, ℕ, ◌^◌, ◌<◌, List, ◌++◌, Option, None, Some, codes, decimal}
 use Rattle.ad_base.specs.declared.limits.Kind.{Kind}
 use Rattle.ad_base.specs.declared.limits.Kind.TheVariants as kinds
+use Rattle.ad_base.specs.Kinds.{kind_word}
 use Rattle.ad_request.specs.declared.request.Request.{Request}
 use Rattle.ad_request.specs.declared.request.Request.TheVariants.{Load, Edit, Module, Genuine, Atoms, Atom, Export, Stat, Quit}
-
--- the word of a kind of module
-abbrev pub kind_word : Kind → List ℕ
-kind_word kinds.Bottom = codes "bottom"
-kind_word kinds.Top = codes "top"
-kind_word kinds.Star = codes "star"
 
 -- the line of a request: words with one space between them
 abbrev pub request_line : Request → List ℕ

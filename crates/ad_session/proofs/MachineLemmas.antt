@@ -17,14 +17,14 @@ use Rattle.ad_reply.specs.Bodies.{IsBody}
 use Rattle.ad_reply.specs.Replies.{Reply, answered}
 use Rattle.ad_session.specs.Asked.{TakesMemory, SpellsBatch}
 use Rattle.ad_session.specs.Steps.{Steps}
-use Rattle.ad_session.specs.Says as says
-use Rattle.ad_session.specs.Says.{Says, Looks}
+use Rattle.ad_session.specs.LookAnswers as says
+use Rattle.ad_session.specs.LookAnswers.{LookAnswers, Looks}
 use Rattle.ad_session.specs.Machines as machines
 use Rattle.ad_session.specs.Machines.{MachineAnswers, MachineRun}
 use Rattle.ad_session.specs.Turns.{outcome_reply}
 
 -- looks that failed stay counted
-says_lapses : (depth : ℕ) (footing : Footing) (old new : Sight) (i : Item) (reply : Reply) → Says depth footing old i reply new → old.lapses ≤ new.lapses
+says_lapses : (depth : ℕ) (footing : Footing) (old new : Sight) (i : Item) (reply : Reply) → LookAnswers depth footing old i reply new → old.lapses ≤ new.lapses
 says_lapses depth footing old new i reply (says.unasked asked is seen) = omega (arith, ap (λ (s : Sight). s.lapses) seen)
 says_lapses depth footing old new i reply (says.unread r cause asked known unread is seen) = omega (arith, ap (λ (s : Sight). s.lapses) seen)
 says_lapses depth footing old new i reply (says.queried r body asked looks is eq) = omega (arith, looks.lapses)
@@ -33,7 +33,7 @@ says_lapses depth footing old new i reply (says.unmade r asked query takes looks
 says_lapses depth footing old new i reply (says.lapsed r asked query enters rose is) = enters.lapses
 says_lapses depth footing old new i reply (says.barred r asked query seen rose later is) = later
 
-run_lapses : (depth : ℕ) (footing : Footing) (old new : Sight) (items : List Item) (replies : List Reply) → Steps (Says depth footing) old items replies new → old.lapses ≤ new.lapses
+run_lapses : (depth : ℕ) (footing : Footing) (old new : Sight) (items : List Item) (replies : List Reply) → Steps (LookAnswers depth footing) old items replies new → old.lapses ≤ new.lapses
 run_lapses depth footing old new [] [] run = omega (arith, ap (λ (s : Sight). s.lapses) run)
 run_lapses depth footing old new [] (r ∷ replies) run = absurd run
 run_lapses depth footing old new (i ∷ items) [] run = absurd run
@@ -50,7 +50,7 @@ looked_at machine old new looks =
     λ j. record { log = machine.log; entered = entered j; limits = machine.limits; session = machine.session; looks = looks.enters.looks j }
 
 -- a reply on the whole log, without a look that failed
-says_machine : (machine : State) (old new : Sight) (i : Item) (reply : Reply) → Says machine.limits.depth (footing_of machine) old i reply new → new.lapses ≡ 0 → MachineAnswers (machine_at machine old) i reply (machine_at machine new)
+says_machine : (machine : State) (old new : Sight) (i : Item) (reply : Reply) → LookAnswers machine.limits.depth (footing_of machine) old i reply new → new.lapses ≡ 0 → MachineAnswers (machine_at machine old) i reply (machine_at machine new)
 says_machine machine old new i reply (says.unasked asked is seen) sure = machines.unasked asked is (ap (λ (s : Sight). machine_at machine s) seen)
 says_machine machine old new i reply (says.unread r cause asked known unread is seen) sure = machines.unread r cause asked known unread is (ap (λ (s : Sight). machine_at machine s) seen)
 says_machine machine old new i reply (says.queried r body asked looks is eq) sure =
@@ -60,7 +60,7 @@ says_machine machine old new i reply (says.unmade r asked query takes looks is) 
 says_machine machine old new i reply (says.lapsed r asked query enters rose is) sure = absurd (omega (arith, rose, sure))
 says_machine machine old new i reply (says.barred r asked query seen rose later is) sure = absurd (omega (arith, rose, sure))
 
-talk_machine : (machine : State) (old new : Sight) (items : List Item) (replies : List Reply) → Steps (Says machine.limits.depth (footing_of machine)) old items replies new → new.lapses ≡ 0 → MachineRun (machine_at machine old) items replies (machine_at machine new)
+talk_machine : (machine : State) (old new : Sight) (items : List Item) (replies : List Reply) → Steps (LookAnswers machine.limits.depth (footing_of machine)) old items replies new → new.lapses ≡ 0 → MachineRun (machine_at machine old) items replies (machine_at machine new)
 talk_machine machine old new [] [] run sure = ap (λ (s : Sight). machine_at machine s) run
 talk_machine machine old new [] (r ∷ replies) run sure = absurd run
 talk_machine machine old new (i ∷ items) [] run sure = absurd run
@@ -93,7 +93,7 @@ at_end old new is footing limits =
     λ j. record { log = sym tells.1 j; entered = entered j; limits = sym limits j; session = sym tells.0 j; looks = new.looks }
 
 -- a talk over a machine, as a run of it
-pub talked_run : (old new : State) (items : List Item) (replies : List Reply) → IsMachine old → IsMachine new → footing_of new ≡ footing_of old → new.limits ≡ old.limits → Steps (Says old.limits.depth (footing_of old)) (sight_of old) items replies (sight_of new) → MachineRun old items replies new
+pub talked_run : (old new : State) (items : List Item) (replies : List Reply) → IsMachine old → IsMachine new → footing_of new ≡ footing_of old → new.limits ≡ old.limits → Steps (LookAnswers old.limits.depth (footing_of old)) (sight_of old) items replies (sight_of new) → MachineRun old items replies new
 talked_run old new items replies before after footing limits run =
     subst (λ (m : State). MachineRun m items replies new) (at_itself old before)
     (subst (λ (m : State). MachineRun (machine_at old (sight_of old)) items replies m) (at_end old new after footing limits) (talk_machine old (sight_of old) (sight_of new) items replies run refl))

@@ -14,8 +14,8 @@ use Rattle.ad_core.specs.Sights.{footing_of}
 use Rattle.ad_core.proofs.LookLemmas.{entered_by-look, entered_by-front}
 use Rattle.ad_reply.specs.Bodies.{IsBody}
 use Rattle.ad_reply.specs.Replies.{Reply, answered}
-use Rattle.ad_session.specs.Says as says
-use Rattle.ad_session.specs.Says.{Looks}
+use Rattle.ad_session.specs.LookAnswers as says
+use Rattle.ad_session.specs.LookAnswers.{Looks}
 use Rattle.ad_session.specs.Answers as answers
 use Rattle.ad_session.specs.Answers.{Answers, Pass, pass, SessionRun}
 use Rattle.ad_session.specs.Machines as machines
@@ -166,7 +166,7 @@ record StepsAs (old new : State) (told : List (List Logged)) (i : Item) (reply :
   fronts : AreFronts new told_then
   step : Answers old.limits (pass_of old told) i reply (pass_of new told_then)
 
-still : (old : State) (told : List (List Logged)) (i : Item) (reply : Reply) → AreFronts old told → says.Says old.limits.depth (footing_of old) (pass_of old told).sight i reply (pass_of old told).sight → StepsAs old old told i reply
+still : (old : State) (told : List (List Logged)) (i : Item) (reply : Reply) → AreFronts old told → says.LookAnswers old.limits.depth (footing_of old) (pass_of old told).sight i reply (pass_of old told).sight → StepsAs old old told i reply
 still old told i reply fronts s = record { told_then = told; fronts = fronts; step = answers.said (footing_of old) (pass_of old told).sight s refl }
 
 -- a look of the machine, as a look of its pass
@@ -186,7 +186,7 @@ pass_looks old told is fronts =
       lapses = refl;
     }
 
-looks_as : (old : State) (told : List (List Logged)) (i : Item) (reply : Reply) → AreFronts old told → says.Says old.limits.depth (footing_of old) (pass_of old told).sight i reply (pass_of (after_look old) told).sight → StepsAs old (after_look old) told i reply
+looks_as : (old : State) (told : List (List Logged)) (i : Item) (reply : Reply) → AreFronts old told → says.LookAnswers old.limits.depth (footing_of old) (pass_of old told).sight i reply (pass_of (after_look old) told).sight → StepsAs old (after_look old) told i reply
 looks_as old told i reply fronts s = record { told_then = told; fronts = fronts; step = answers.said (footing_of old) (pass_of (after_look old) told).sight s refl }
 
 commit_pass : (old : State) (told : List (List Logged)) (ops : List Op) → IsMachine old → (let entry = next_entry old.log (ticket_of old.session) ops in pass_of (after_commit old old.session ops) (told ++ (old.log ++ entry ∷ []) ∷ []) ≡ pass (tell (pass_of old told).sight (old.log ++ entry ∷ [])) (ticket_of old.session) (count_of old.log (ticket_of old.session) + 1))

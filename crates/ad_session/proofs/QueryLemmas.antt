@@ -19,8 +19,8 @@ use Rattle.ad_read.specs.declared.texts.ReadRefused.TheVariants as texts
 use Rattle.ad_write.specs.Canonical.{canon_document}
 use Rattle.ad_reply.specs.Replies.{answered, no_memory, unread_text, shut, refused, reply_bytes}
 use Rattle.ad_session.specs.Asked.{SpellsQuery, TakesMemory, IsUnread}
-use Rattle.ad_session.specs.Says as says
-use Rattle.ad_session.specs.Says.{Looks}
+use Rattle.ad_session.specs.LookAnswers as says
+use Rattle.ad_session.specs.LookAnswers.{Looks}
 use Rattle.ad_session.specs.Turns.{Speaks, PutsModuleOrRefuses, refusal_of}
 
 -- the edition at hand is that of the log entered

@@ -14,7 +14,7 @@ use Rattle.ad_session.specs.declared.ends.End.TheVariants as ends
 use Rattle.ad_session.specs.declared.ends.Pause.TheVariants as pauses
 use Rattle.ad_session.specs.Steps.{Steps}
 use Rattle.ad_session.specs.Flows.{Flow}
-use Rattle.ad_session.specs.Says.{Says}
+use Rattle.ad_session.specs.LookAnswers.{LookAnswers}
 use Rattle.ad_session.specs.Ends.{items_bytes, replies_bytes, EndsAs}
 use Rattle.ad_session.specs.Talks.{TalkIs}
 use Rattle.ad_session.specs.Turns.{TurnsOnce, TurnsToEdit, TurnsToEnd, EndsTurn}
@@ -45,7 +45,7 @@ pub record TalkedSo (bounds : Bounds) (depth : ℕ) (footing : Footing) (n answe
   pub items : List Item
   pub replies : List Reply
   pub items_are : AreItems bounds n items
-  pub run : Steps (Says depth footing) old items replies sight
+  pub run : Steps (LookAnswers depth footing) old items replies sight
   pub count : answered ≡ n + length items
   pub lost : Loses a.left now.left (items_bytes items)
   pub gained : Gains a.written now.written (replies_bytes replies)
@@ -87,7 +87,7 @@ talked_more bounds depth footing n answered a mid now old sight new so few turn 
       items = so.items ++ turn.item ∷ [];
       replies = so.replies ++ turn.reply ∷ [];
       items_are = items_more bounds n so.items turn.item so.items_are turn.is (omega arith);
-      run = steps_more (Says depth footing) old sight new so.items so.replies turn.item turn.reply so.run turn.says;
+      run = steps_more (LookAnswers depth footing) old sight new so.items so.replies turn.item turn.reply so.run turn.says;
       count = omega (arith, length-append so.items (turn.item ∷ []));
       lost = lost_more a mid now so.items turn.item so.lost turn.lost;
       gained = gained_more a mid now so.replies turn.reply so.gained turn.gained;
@@ -106,7 +106,7 @@ talk_pauses bounds depth footing n answered a mid now old sight new batch so few
       items = so.items;
       replies = so.replies;
       items_are = so.items_are;
-      run = subst (λ s. Steps (Says depth footing) old so.items so.replies s) (sym seen) so.run;
+      run = subst (λ s. Steps (LookAnswers depth footing) old so.items so.replies s) (sym seen) so.run;
       pauses = (
         record {
           item = turn.item;
@@ -140,8 +140,8 @@ talk_spent bounds depth footing n answered a now old sight so all =
       );
     }
 
-run_seen : (depth : ℕ) (footing : Footing) (old sight new : Sight) (items : List Item) (replies : List Reply) → new ≡ sight → Steps (Says depth footing) old items replies sight → Steps (Says depth footing) old items replies new
-run_seen depth footing old sight new items replies seen run = subst (λ s. Steps (Says depth footing) old items replies s) (sym seen) run
+run_seen : (depth : ℕ) (footing : Footing) (old sight new : Sight) (items : List Item) (replies : List Reply) → new ≡ sight → Steps (LookAnswers depth footing) old items replies sight → Steps (LookAnswers depth footing) old items replies new
+run_seen depth footing old sight new items replies seen run = subst (λ s. Steps (LookAnswers depth footing) old items replies s) (sym seen) run
 
 -- the input ended
 ends_as : (bounds : Bounds) (ending : Ending) (depth : ℕ) (footing : Footing) (n answered : ℕ) (a mid now : Flow) (old sight new : Sight) (so : TalkedSo bounds depth footing n answered a mid old sight) → InTime bounds ending (n + length so.items) → TurnsToEnd bounds ending mid now sight new → EndsAs bounds ending (n + length so.items) a now so.items so.replies
@@ -210,7 +210,7 @@ talk_ends bounds ends.WriteFault depth footing n answered a mid now old sight ne
   items = so.items ++ turn.item ∷ [];
   replies = so.replies ++ turn.reply ∷ [];
   items_are = items_more bounds n so.items turn.item so.items_are turn.is (in_time_for bounds depth footing n answered a mid old sight so few);
-  run = steps_more (Says depth footing) old sight new so.items so.replies turn.item turn.reply so.run turn.says;
+  run = steps_more (LookAnswers depth footing) old sight new so.items so.replies turn.item turn.reply so.run turn.says;
   pauses = (
     record {
       lost = lost_more a mid now so.items turn.item so.lost turn.lost;

@@ -18,7 +18,7 @@ use Rattle.ad_session.specs.declared.turn.Turn.{Turn}
 use Rattle.ad_session.specs.declared.turn.Turn.TheVariants as turns
 use Rattle.ad_session.specs.Asked.{TakesMemory}
 use Rattle.ad_session.specs.Flows.{flow}
-use Rattle.ad_session.specs.Says as says
+use Rattle.ad_session.specs.LookAnswers as says
 use Rattle.ad_session.specs.Turns.{Speaks, Replies, TurnIs, turn_of}
 
 -- a reply that was written, or a front of it

@@ -11,7 +11,7 @@ use Rattle.ad_edition.specs.Limit.{passed}
 use Rattle.ad_edition.specs.Sight.{Sight, Footing, tell}
 use Rattle.ad_reply.specs.Replies.{Reply, answered, limited, no_memory, counts_body}
 use Rattle.ad_session.specs.Asked.{SpellsBatch}
-use Rattle.ad_session.specs.Says.{Says}
+use Rattle.ad_session.specs.LookAnswers.{LookAnswers}
 use Rattle.ad_session.specs.Steps.{Steps}
 
 -- what the session has seen, its ticket, and how many of the ticket's edits were accepted
@@ -25,7 +25,7 @@ pass sight ticket count = record { sight = sight; ticket = ticket; count = count
 
 pub data Answers (limits : Limits) (old : Pass) (i : Item) (reply : Reply) (new : Pass) : Type 0 where
   -- no edit, or one that can't be read
-  said : (footing : Footing) (sight : Sight) → Says limits.depth footing old.sight i reply sight → new ≡ pass sight old.ticket old.count → Answers limits old i reply new
+  said : (footing : Footing) (sight : Sight) → LookAnswers limits.depth footing old.sight i reply sight → new ≡ pass sight old.ticket old.count → Answers limits old i reply new
   -- an accepted edit: the log that the session is told ends with its entry
   accepted : (request : Request) (ops : List Op) (log : List Logged) (entry : Logged) → i.asked ≡ Some request → SpellsBatch limits.depth request i.payload ops
       → IsLog (log ++ entry ∷ []) → entry.ticket ≡ old.ticket → entry.batch ≡ ops → new ≡ pass (tell old.sight (log ++ entry ∷ [])) old.ticket (old.count + 1)

@@ -1,6 +1,6 @@
 pub mod Steps
 pub mod Asked
-pub mod Says
+pub mod LookAnswers
 pub mod Answers
 pub mod Machines
 pub mod Flows

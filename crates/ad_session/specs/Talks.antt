@@ -10,7 +10,7 @@ use Rattle.ad_session.specs.declared.ends.Pause.{Pause}
 use Rattle.ad_session.specs.declared.ends.Pause.TheVariants as pauses
 use Rattle.ad_session.specs.Asked.{SpellsBatch}
 use Rattle.ad_session.specs.Steps.{Steps}
-use Rattle.ad_session.specs.Says.{Says}
+use Rattle.ad_session.specs.LookAnswers.{LookAnswers}
 use Rattle.ad_session.specs.Flows.{Flow}
 use Rattle.ad_session.specs.Ends.{EndsSo, IsCount, items_bytes, replies_bytes}
 
@@ -39,5 +39,5 @@ pub record TalkIs (bounds : Bounds) (depth : ℕ) (footing : Footing) (pause : P
   pub items : List Item
   pub replies : List Reply
   pub items_are : AreItems bounds n items
-  pub run : Steps (Says depth footing) old items replies new
+  pub run : Steps (LookAnswers depth footing) old items replies new
   pub pauses : PausesSo bounds depth pause (n + length items) answered a b items replies

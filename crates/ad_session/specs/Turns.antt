@@ -24,14 +24,14 @@ use Rattle.ad_session.specs.declared.ends.End.{End}
 use Rattle.ad_session.specs.declared.ends.End.TheVariants as ends
 use Rattle.ad_session.specs.declared.turn.Turn.{Turn}
 use Rattle.ad_session.specs.declared.turn.Turn.TheVariants as turns
-use Rattle.ad_session.specs.Says.{Says}
+use Rattle.ad_session.specs.LookAnswers.{LookAnswers}
 use Rattle.ad_session.specs.Talks.{IsEdit}
 use Rattle.ad_session.specs.Flows.{Flow}
 
 -- a reply to the item was written, or a front of it
 pub record Speaks (depth : ℕ) (footing : Footing) (old new : Sight) (i : Item) (before after : Option (List ℕ)) (written : Wrote) : Type 0 where
   pub reply : Reply
-  pub says : Says depth footing old i reply new
+  pub says : LookAnswers depth footing old i reply new
   pub puts : Puts before after written (reply_bytes reply)
 
 -- an item was read and answered
@@ -39,7 +39,7 @@ pub record TurnsOnce (bounds : Bounds) (depth : ℕ) (footing : Footing) (a b : 
   pub item : Item
   pub reply : Reply
   pub is : IsItem bounds item
-  pub says : Says depth footing old item reply new
+  pub says : LookAnswers depth footing old item reply new
   pub lost : Loses a.left b.left (item_bytes item)
   pub gained : Gains a.written b.written (reply_bytes reply)
 
@@ -55,7 +55,7 @@ pub record TurnsToFault (bounds : Bounds) (depth : ℕ) (footing : Footing) (a b
   pub item : Item
   pub reply : Reply
   pub is : IsItem bounds item
-  pub says : Says depth footing old item reply new
+  pub says : LookAnswers depth footing old item reply new
   pub lost : Loses a.left b.left (item_bytes item)
   pub gained : GainsFront a.written b.written (reply_bytes reply)
   pub rose : Rose a.write_faults b.write_faults

@@ -1,8 +1,8 @@
 -- The tree of a keyword and its arguments.
 use Rattle.std.specs.Prelude.{ℕ, List, [], ◌∷◌, Option, None, Some}
 use Rattle.std.specs.Option.{option_map, option_zip}
-use Rattle.ad_terms.specs.declared.item.Item.{Item}
-use Rattle.ad_terms.specs.declared.item.Item.TheVariants as i
+use Rattle.ad_terms.specs.declared.item.StackItem.{StackItem}
+use Rattle.ad_terms.specs.declared.item.StackItem.TheVariants as i
 use Rattle.ad_terms.specs.declared.keyword.RangeWord.{RangeWord}
 use Rattle.ad_terms.specs.declared.keyword.RangeWord.TheVariants as rangeword
 use Rattle.ad_terms.specs.declared.keyword.ClassWord.{ClassWord}
@@ -42,23 +42,23 @@ use Rattle.ad_tree.specs.declared.classes.Class.{Class}
 use Rattle.ad_tree.specs.declared.classes.Class.TheVariants as c
 
 -- the name of a facet, and its value
-abbrev pub facet : List Item → Option Facet
+abbrev pub facet : List StackItem → Option Facet
 facet items = option_map (λ p. record { facet = p.0; value = p.1 }) (top_two as_name as_literal items)
 
-abbrev pub facets : List Item → Option (List Facet)
+abbrev pub facets : List StackItem → Option (List Facet)
 facets [] = Some []
 facets (name ∷ []) = None
 facets (name ∷ value ∷ items) = more (facet (name ∷ value ∷ [])) (facets items)
 
 -- a datatype, and facets of it
-abbrev pub restriction : List Item → Option Range
+abbrev pub restriction : List StackItem → Option Range
 restriction items = option_map (λ p. r.Restriction p.0 p.1) (option_zip (top_read as_name items) (facets (behind_top items)))
 
 abbrev pub joined_range : JoinWord → List Range → Range
 joined_range joinword.Intersection = r.And
 joined_range joinword.Union = r.Or
 
-abbrev pub range_of : RangeWord → List Item → Option Range
+abbrev pub range_of : RangeWord → List StackItem → Option Range
 range_of (rangeword.Join word) items = option_map (joined_range word) (each as_range items)
 range_of rangeword.Complement items = option_map r.Not (one as_range items)
 range_of rangeword.OneOf items = option_map r.OneOf (each as_literal items)
@@ -86,7 +86,7 @@ data_count countword.Min = λ p. c.DataMin p.0 p.1.0 p.1.1
 data_count countword.Max = λ p. c.DataMax p.0 p.1.0 p.1.1
 data_count countword.Exact = λ p. c.DataExact p.0 p.1.0 p.1.1
 
-abbrev pub class_of : ClassWord → List Item → Option Class
+abbrev pub class_of : ClassWord → List StackItem → Option Class
 class_of (classword.Join word) items = option_map (joined_class word) (each as_class items)
 class_of classword.Complement items = option_map c.Not (one as_class items)
 class_of classword.OneOf items = option_map c.OneOf (each as_individual items)
@@ -104,17 +104,17 @@ below (lower.Property sub) super = a.SubObjectPropertyOf sub super
 below (lower.Chain chain) super = a.SubObjectPropertyChainOf chain super
 
 -- the members of a list between parentheses, and the items behind it; or none
-abbrev pub list_at : {A : Type 0} → (Item → Option A) → List Item → Option (List A) × List Item
+abbrev pub list_at : {A : Type 0} → (StackItem → Option A) → List StackItem → Option (List A) × List StackItem
 list_at f (i.Open ∷ items) = (each f (gather items 0).0, (gather items 0).1)
 list_at f items = (None, behind_top items)
 
 -- a list between parentheses, with nothing behind it
-abbrev pub last_list : {A : Type 0} → Option (List A) × List Item → Option (List A)
+abbrev pub last_list : {A : Type 0} → Option (List A) × List StackItem → Option (List A)
 last_list (members, []) = members
 last_list (members, item ∷ items) = None
 
 -- two lists between parentheses, with nothing behind them
-abbrev pub two_lists : List Item → Option (List ObjProp × List (List ℕ))
+abbrev pub two_lists : List StackItem → Option (List ObjProp × List (List ℕ))
 two_lists items = let objects = list_at as_property items in option_zip objects.0 (last_list (list_at as_name objects.1))
 
 -- the key of a class and two lists
@@ -122,7 +122,7 @@ abbrev pub keyed : Option Class → Option (List ObjProp × List (List ℕ)) →
 keyed class lists = option_map (λ p. a.HasKey p.0 p.1.0 p.1.1) (option_zip class lists)
 
 -- a key: a class, and two lists between parentheses
-abbrev pub key : List Item → Option Axiom
+abbrev pub key : List StackItem → Option Axiom
 key items = keyed (top_read as_class items) (two_lists (behind_top items))
 
 abbrev pub classes_axiom : SetWord → List Class → Axiom
@@ -168,7 +168,7 @@ abbrev pub data_fact_axiom : FactWord → List ℕ × (Individual × Literal) �
 data_fact_axiom factword.Holds = λ p. a.DataPropertyAssertion p.0 p.1.0 p.1.1
 data_fact_axiom factword.Fails = λ p. a.NegativeDataPropertyAssertion p.0 p.1.0 p.1.1
 
-abbrev pub axiom_of : AxiomWord → List Item → Option Axiom
+abbrev pub axiom_of : AxiomWord → List StackItem → Option Axiom
 axiom_of axiomword.SubClassOf items = option_map (λ p. a.SubClassOf p.0 p.1) (two as_class as_class items)
 axiom_of (axiomword.Classes word) items = option_map (classes_axiom word) (each as_class items)
 axiom_of axiomword.DisjointUnion items = option_map (λ p. a.DisjointUnion p.0 p.1) (first_and_each as_name as_class items)

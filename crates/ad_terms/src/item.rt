@@ -3,7 +3,7 @@ use ad_tree::{Annotation, Class, Entity, Literal, Noted, ObjProps, Range, Sign};
 
 /// What the tokens of a text stand for, while it is read from its end.
 #[derive(Drop)]
-pub enum Item {
+pub enum StackItem {
     /// A parenthesis that no keyword has taken yet.
     Open,
     Close,

@@ -1,7 +1,7 @@
 ghost use Rattle.std.specs.Prelude.{◌≡◌, IfOk};
 ghost use Rattle.ad_terms.specs.Built.{key, keyed, two_lists, list_at, last_list};
 
-use crate::item::Item;
+use crate::item::StackItem;
 use crate::reads_as::ReadsAs;
 use crate::shapes::{each, next};
 use crate::stack::Stack;
@@ -51,7 +51,7 @@ fn list<A: ReadsAs>(alloc: Global, arguments: &mut Stack) -> Result<Option<Many<
     ensures { IfOk result (λ found. (found ≡ (list_at A.as_item arguments.old).0) × (arguments.new ≡ (list_at A.as_item arguments.old).1)) }
 {
     match arguments.pop() {
-        Some(Item::Open) => each(alloc, arguments.gather(alloc)?),
+        Some(StackItem::Open) => each(alloc, arguments.gather(alloc)?),
         _ => Ok(None),
     }
 }

@@ -3,7 +3,7 @@
 
 pub use axioms::axiom_of;
 pub use classes::class_of;
-pub use item::Item;
+pub use item::StackItem;
 pub use keyword::{
     AxiomWord, ClassWord, CountWord, EndWord, FactWord, FillerWord, JoinWord, Keyword, NamesWord,
     RangeWord, SetWord, TraitWord,

@@ -1,7 +1,7 @@
 ghost use Rattle.std.specs.Prelude.{◌≡◌};
 ghost use Rattle.ad_terms.specs.Items.{as_name, as_number, as_literal, as_property, as_individual, as_range, as_class, as_entity, as_subject, as_value, as_lower, as_axiom, as_sign};
 
-use crate::item::Item;
+use crate::item::StackItem;
 use ad_base::Word;
 use ad_tree::{
     Class, Entity, Individual, Literal, Noted, ObjProp, ObjProps, Range, Sign, Subject, Value,
@@ -10,12 +10,12 @@ use ad_tree::{
 /// What an item can be read as where a phrase of this kind is asked for.
 pub trait ReadsAs: Sized + Drop {
     ghost use Rattle.std.specs.Prelude.{Option};
-    ghost use Rattle.ad_terms.specs.declared.item.Item.{Item};
+    ghost use Rattle.ad_terms.specs.declared.item.StackItem.{StackItem};
 
-    ghost as_item: { Item → Option Self };
+    ghost as_item: { StackItem → Option Self };
 
     /// The phrase that the item is, if it is one of this kind.
-    fn read(item: Item) -> Option<Self>
+    fn read(item: StackItem) -> Option<Self>
         ensures { result ≡ as_item item };
 }
 
@@ -29,9 +29,9 @@ pub enum Lower {
 impl ReadsAs for Word {
     ghost as_item = { as_name };
 
-    fn read(item: Item) -> Option<Word> {
+    fn read(item: StackItem) -> Option<Word> {
         match item {
-            Item::Name(name) => Some(name),
+            StackItem::Name(name) => Some(name),
             _other => None,
         }
     }
@@ -40,9 +40,9 @@ impl ReadsAs for Word {
 impl ReadsAs for u32 {
     ghost as_item = { as_number };
 
-    fn read(item: Item) -> Option<u32> {
+    fn read(item: StackItem) -> Option<u32> {
         match item {
-            Item::Number(number) => Some(number),
+            StackItem::Number(number) => Some(number),
             _other => None,
         }
     }
@@ -51,9 +51,9 @@ impl ReadsAs for u32 {
 impl ReadsAs for Literal {
     ghost as_item = { as_literal };
 
-    fn read(item: Item) -> Option<Literal> {
+    fn read(item: StackItem) -> Option<Literal> {
         match item {
-            Item::Literal(literal) => Some(literal),
+            StackItem::Literal(literal) => Some(literal),
             _other => None,
         }
     }
@@ -62,10 +62,10 @@ impl ReadsAs for Literal {
 impl ReadsAs for ObjProp {
     ghost as_item = { as_property };
 
-    fn read(item: Item) -> Option<ObjProp> {
+    fn read(item: StackItem) -> Option<ObjProp> {
         match item {
-            Item::Name(name) => Some(ObjProp::Named(name)),
-            Item::Inverse(name) => Some(ObjProp::Inverse(name)),
+            StackItem::Name(name) => Some(ObjProp::Named(name)),
+            StackItem::Inverse(name) => Some(ObjProp::Inverse(name)),
             _other => None,
         }
     }
@@ -74,11 +74,11 @@ impl ReadsAs for ObjProp {
 impl ReadsAs for Lower {
     ghost as_item = { as_lower };
 
-    fn read(item: Item) -> Option<Lower> {
+    fn read(item: StackItem) -> Option<Lower> {
         match item {
-            Item::Name(name) => Some(Lower::Property(ObjProp::Named(name))),
-            Item::Inverse(name) => Some(Lower::Property(ObjProp::Inverse(name))),
-            Item::Chain(chain) => Some(Lower::Chain(chain)),
+            StackItem::Name(name) => Some(Lower::Property(ObjProp::Named(name))),
+            StackItem::Inverse(name) => Some(Lower::Property(ObjProp::Inverse(name))),
+            StackItem::Chain(chain) => Some(Lower::Chain(chain)),
             _other => None,
         }
     }
@@ -87,10 +87,10 @@ impl ReadsAs for Lower {
 impl ReadsAs for Individual {
     ghost as_item = { as_individual };
 
-    fn read(item: Item) -> Option<Individual> {
+    fn read(item: StackItem) -> Option<Individual> {
         match item {
-            Item::Name(name) => Some(Individual::Named(name)),
-            Item::Label(label) => Some(Individual::Anonymous(label)),
+            StackItem::Name(name) => Some(Individual::Named(name)),
+            StackItem::Label(label) => Some(Individual::Anonymous(label)),
             _other => None,
         }
     }
@@ -99,10 +99,10 @@ impl ReadsAs for Individual {
 impl ReadsAs for Range {
     ghost as_item = { as_range };
 
-    fn read(item: Item) -> Option<Range> {
+    fn read(item: StackItem) -> Option<Range> {
         match item {
-            Item::Name(name) => Some(Range::Named(name)),
-            Item::Range(range) => Some(range),
+            StackItem::Name(name) => Some(Range::Named(name)),
+            StackItem::Range(range) => Some(range),
             _other => None,
         }
     }
@@ -111,10 +111,10 @@ impl ReadsAs for Range {
 impl ReadsAs for Class {
     ghost as_item = { as_class };
 
-    fn read(item: Item) -> Option<Class> {
+    fn read(item: StackItem) -> Option<Class> {
         match item {
-            Item::Name(name) => Some(Class::Named(name)),
-            Item::Class(class) => Some(class),
+            StackItem::Name(name) => Some(Class::Named(name)),
+            StackItem::Class(class) => Some(class),
             _other => None,
         }
     }
@@ -123,9 +123,9 @@ impl ReadsAs for Class {
 impl ReadsAs for Entity {
     ghost as_item = { as_entity };
 
-    fn read(item: Item) -> Option<Entity> {
+    fn read(item: StackItem) -> Option<Entity> {
         match item {
-            Item::Entity(entity) => Some(entity),
+            StackItem::Entity(entity) => Some(entity),
             _other => None,
         }
     }
@@ -134,9 +134,9 @@ impl ReadsAs for Entity {
 impl ReadsAs for Noted {
     ghost as_item = { as_axiom };
 
-    fn read(item: Item) -> Option<Noted> {
+    fn read(item: StackItem) -> Option<Noted> {
         match item {
-            Item::Axiom(noted) => Some(noted),
+            StackItem::Axiom(noted) => Some(noted),
             _other => None,
         }
     }
@@ -145,10 +145,10 @@ impl ReadsAs for Noted {
 impl ReadsAs for Subject {
     ghost as_item = { as_subject };
 
-    fn read(item: Item) -> Option<Subject> {
+    fn read(item: StackItem) -> Option<Subject> {
         match item {
-            Item::Name(name) => Some(Subject::Iri(name)),
-            Item::Label(label) => Some(Subject::Anonymous(label)),
+            StackItem::Name(name) => Some(Subject::Iri(name)),
+            StackItem::Label(label) => Some(Subject::Anonymous(label)),
             _other => None,
         }
     }
@@ -157,11 +157,11 @@ impl ReadsAs for Subject {
 impl ReadsAs for Value {
     ghost as_item = { as_value };
 
-    fn read(item: Item) -> Option<Value> {
+    fn read(item: StackItem) -> Option<Value> {
         match item {
-            Item::Name(name) => Some(Value::Iri(name)),
-            Item::Label(label) => Some(Value::Anonymous(label)),
-            Item::Literal(literal) => Some(Value::Literal(literal)),
+            StackItem::Name(name) => Some(Value::Iri(name)),
+            StackItem::Label(label) => Some(Value::Anonymous(label)),
+            StackItem::Literal(literal) => Some(Value::Literal(literal)),
             _other => None,
         }
     }
@@ -170,9 +170,9 @@ impl ReadsAs for Value {
 impl ReadsAs for Sign {
     ghost as_item = { as_sign };
 
-    fn read(item: Item) -> Option<Sign> {
+    fn read(item: StackItem) -> Option<Sign> {
         match item {
-            Item::Signed(sign) => Some(sign),
+            StackItem::Signed(sign) => Some(sign),
             _other => None,
         }
     }

@@ -1,7 +1,7 @@
 ghost use Rattle.std.specs.Prelude.{◌≡◌, IfOk};
 ghost use Rattle.ad_terms.specs.Shapes.{top_read, behind_top, top_two, one, two, three, optional, optional_behind, counted, each, first_and_each};
 
-use crate::item::Item;
+use crate::item::StackItem;
 use crate::reads_as::ReadsAs;
 use crate::stack::Stack;
 use ad_base::Memory;

@@ -1,8 +1,8 @@
 ghost use Rattle.std.specs.Prelude.{◌≡◌, ◌<◌, ◌≤◌, ◌+◌, [], ◌∷◌, OnOk, OnErr, IfOk, IfSome, MatchOption, IsTrue, ◌↔◌};
 ghost use Rattle.ad_terms.specs.Stacks.{gather, depth_behind, leading_notes, behind_names};
-ghost use Rattle.ad_terms.specs.declared.item.Item.TheVariants as i;
+ghost use Rattle.ad_terms.specs.declared.item.StackItem.TheVariants as i;
 
-use crate::item::Item;
+use crate::item::StackItem;
 use ad_base::{Memory, Word};
 use ad_tree::{Annotation, Annotations, Many};
 use std::alloc::Global;
@@ -11,16 +11,16 @@ use std::marker::Model;
 /// Items, of which the last one put is on top. Contracts see the list of them from the top on.
 #[derive(Drop)]
 pub struct Stack {
-    items: Vec<Item>,
+    items: Vec<StackItem>,
 }
 
 impl Model for Stack {
     ghost use Rattle.std.specs.Prelude.{List, reverse};
     ghost use Rattle.std.specs.Coded.{coded_list};
-    ghost use Rattle.ad_terms.specs.declared.item.Item.{Item};
-    ghost use Rattle.ad_terms.specs.contracts.item.Item as one;
+    ghost use Rattle.ad_terms.specs.declared.item.StackItem.{StackItem};
+    ghost use Rattle.ad_terms.specs.contracts.item.StackItem as one;
 
-    ghost Value = { List Item };
+    ghost Value = { List StackItem };
 
     ghost coded = { coded_list one.the_row.coded };
 
@@ -38,7 +38,7 @@ impl Stack {
     }
 
     /// The stack of these items, of which the first is on top.
-    fn of(mut items: Vec<Item>) -> Stack
+    fn of(mut items: Vec<StackItem>) -> Stack
         ensures { result ≡ items.items }
     {
         items.reverse();
@@ -46,7 +46,7 @@ impl Stack {
     }
 
     /// Puts an item on top.
-    pub fn push(&mut self, item: Item) -> Result<(), Memory>
+    pub fn push(&mut self, item: StackItem) -> Result<(), Memory>
         ensures ok { OnOk result (self.new ≡ item ∷ self.old) }
         ensures err { OnErr result (self.new ≡ self.old) }
     {
@@ -55,7 +55,7 @@ impl Stack {
     }
 
     /// Takes the item on top, if there is one.
-    pub fn pop(&mut self) -> Option<Item>
+    pub fn pop(&mut self) -> Option<StackItem>
         ensures { MatchOption result ((self.old ≡ []) × (self.new ≡ [])) (λ item. self.old ≡ item ∷ self.new) }
     {
         self.items.pop()
@@ -118,7 +118,7 @@ impl Stack {
         ensures { IfOk result (λ found. MatchOption found ((behind_names self.old ≡ self.old) × (self.new ≡ self.old)) (λ name. self.old ≡ i.Name name ∷ self.new)) }
     {
         match self.pop() {
-            Some(Item::Name(name)) => Ok(Some(name)),
+            Some(StackItem::Name(name)) => Ok(Some(name)),
             Some(other) => {
                 self.push(other)?;
                 Ok(None)
@@ -132,7 +132,7 @@ impl Stack {
         ensures { IfOk result (λ found. MatchOption found ((leading_notes self.old ≡ ([], self.old)) × (self.new ≡ self.old)) (λ note. self.old ≡ i.Note note ∷ self.new)) }
     {
         match self.pop() {
-            Some(Item::Note(note)) => Ok(Some(note)),
+            Some(StackItem::Note(note)) => Ok(Some(note)),
             Some(other) => {
                 self.push(other)?;
                 Ok(None)
@@ -143,14 +143,14 @@ impl Stack {
 }
 
 /// How many parentheses are open behind an item, or None where it closes what was taken.
-fn depth_behind(item: &Item, depth: usize) -> Option<usize>
+fn depth_behind(item: &StackItem, depth: usize) -> Option<usize>
     requires { depth < 18446744073709551615 }
     ensures depth { result ≡ depth_behind item.now depth }
     ensures few { IfSome result (λ behind. behind ≤ depth + 1) }
 {
     match item {
-        Item::Open => Some(depth + 1),
-        Item::Close => depth.checked_sub(1),
+        StackItem::Open => Some(depth + 1),
+        StackItem::Close => depth.checked_sub(1),
         _ => Some(depth),
     }
 }

@@ -2,7 +2,7 @@ ghost use Rattle.std.specs.Prelude.{◌≡◌, ◌≤◌, ◌<◌, ◌^◌, ℕ,
 ghost use Rattle.ad_lex.specs.Lexemes.{lexemes};
 ghost use Rattle.ad_lex.specs.Spans.{AreTokensOf};
 ghost use Rattle.ad_grammar.specs.Faults.{IsOf, IsFirstFault};
-ghost use Rattle.ad_check.specs.Stops.{Says};
+ghost use Rattle.ad_check.specs.Stops.{GoesOnBy};
 ghost use Rattle.ad_read.specs.Texts.{depth, IsShallow, IsFormed, place};
 ghost use Rattle.ad_read.specs.Outcome.{Refuses};
 ghost use Rattle.ad_read.specs.Opened.{form_of, IsOpened, IsRefusalOf, is_unknown_in, RefusesUnknown};
@@ -113,7 +113,7 @@ fn check(text: &[u8], tokens: &Tokens, whole: Whole) -> Result<(), Stop>
     requires { AreTokensOf text.now tokens.now }
     ensures ok { IfOk result (λ done. IsOf false (form_of whole) (lexemes text.now tokens.now)) }
     ensures first { IfErr result (λ stop. IsFirstFault (form_of whole) (lexemes text.now tokens.now) stop.token) }
-    ensures what { IfErr result (λ stop. Says (form_of whole) (lexemes text.now tokens.now) stop.token stop.what) }
+    ensures what { IfErr result (λ stop. GoesOnBy (form_of whole) (lexemes text.now tokens.now) stop.token stop.what) }
 {
     match whole {
         Whole::Document => check_document(text, tokens),
