@@ -3,7 +3,7 @@ use Rattle.std.proofs.Common.{◌≡◌, ℕ, ◌<◌, Bool, true, false, not, L
 use Rattle.std.proofs.lemmas.List.{get_or_default}
 use Rattle.ad_base.specs.declared.limits.Kind.{Kind}
 use Rattle.ad_bits.specs.Rows.{has}
-use Rattle.ad_theory.specs.Rows.{Tables, row_of}
+use Rattle.ad_tables.specs.Rows.{Tables, row_of}
 use Rattle.ad_decomposition.specs.Tables.{is_in, is_in_row_of}
 use Rattle.ad_atoms.specs.Numbering.{HasRow}
 

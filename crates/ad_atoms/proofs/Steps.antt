@@ -6,7 +6,7 @@ use Rattle.std.proofs.lemmas.List.{append-nil, map_push, length_push}
 use Rattle.std.proofs.lemmas.List.Elements.{filter-append}
 use Rattle.std.proofs.lemmas.List.Quantifiers.{position-Some}
 use Rattle.ad_theory.specs.Numbers.{sum_where}
-use Rattle.ad_theory.specs.Rows.{Numbered}
+use Rattle.ad_tables.specs.Rows.{Numbered}
 use Rattle.ad_theory.proofs.Members.{either, not_both, and_intro, and_left, and_right, Has, has_of_contains, contains_of_has, has_get_or, any_of_has, has_of_any, filter_has, filter_same, filter-filter}
 use Rattle.ad_decomposition.specs.Atoms.{AreAtoms, firsts_among, same_module, in_atoms, size_of}
 use Rattle.ad_decomposition.specs.Tables.{AreNested}

@@ -3,7 +3,7 @@
 use Rattle.std.specs.Prelude.{◌≡◌, ℕ, ◌&&◌, not, Bool, List, Option, Some, None, is_none, length, map, if◌then◌else◌, slice_index_or}
 use Rattle.std.specs.List.{Contains, filter, position}
 use Rattle.ad_base.specs.declared.limits.Kind.{Kind}
-use Rattle.ad_theory.specs.Rows.{Tables, Numbered, row_of}
+use Rattle.ad_tables.specs.Rows.{Tables, Numbered, row_of}
 use Rattle.ad_decomposition.specs.Atoms.{firsts_among, same_module, size_of}
 
 -- the slot has a row over so many slots

@@ -1,14 +1,14 @@
 ghost use Rattle.std.specs.Prelude.{◌≡◌, ◌<◌, ◌^◌, ℕ, None, Some, length, nat_eq, slice_index_or, if◌then◌else◌, IfOk, IsSome, IsTrue};
 ghost use Rattle.std.specs.List.{IsDistinct};
 ghost use Rattle.ad_theory.specs.Numbers.{sum_where};
-ghost use Rattle.ad_theory.specs.Rows.{of_kind, row_of};
+ghost use Rattle.ad_tables.specs.Rows.{of_kind, row_of};
 ghost use Rattle.ad_decomposition.specs.Atoms.{AreAtoms};
 ghost use Rattle.ad_decomposition.specs.Tables.{AreNested, HaveRows, is_in_row_of};
 ghost use Rattle.ad_atoms.specs.Numbering.{HasRow, joins};
 
 use ad_base::{Kind, Memory};
 use ad_bits::Row;
-use ad_theory::{Atoms, Rows};
+use ad_tables::{Atoms, Rows};
 use std::alloc::Global;
 
 /// The row of a slot that has one.

@@ -12,8 +12,8 @@ use ad_base::{Memory, Word, are_digits};
 use ad_lex::{Mark, Token};
 use ad_prefixes::Prefixes;
 use ad_terms::{
-    AxiomWord, ClassWord, StackItem, Keyword, RangeWord, Stack, axiom_of, class_of, each, one, range_of,
-    two,
+    AxiomWord, ClassWord, Keyword, RangeWord, Stack, StackItem, axiom_of, class_of, each, one,
+    range_of, two,
 };
 use ad_tree::{Annotation, Entity, EntityKind, Literal, Noted, Sign, Value};
 use std::alloc::Global;
@@ -100,7 +100,9 @@ fn put_typed(value: Word, items: &mut Stack) -> Result<(), Memory>
     ensures { OnOk result (items.new ≡ put_text value (i.Carets ∷ items.old)) }
 {
     match items.pop() {
-        Some(StackItem::Name(datatype)) => items.push(StackItem::Literal(Literal::Typed(value, datatype))),
+        Some(StackItem::Name(datatype)) => items.push(StackItem::Literal(Literal::Typed(
+            value, datatype,
+        ))),
         Some(other) => {
             items.push(other)?;
             items.push(StackItem::Carets)?;

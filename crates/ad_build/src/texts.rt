@@ -18,7 +18,7 @@ use crate::reads::reads;
 use ad_base::Memory;
 use ad_lex::Token;
 use ad_prefixes::Prefixes;
-use ad_terms::{StackItem, ReadsAs, Stack, next_two};
+use ad_terms::{ReadsAs, Stack, StackItem, next_two};
 use ad_tree::{Batch, Entity, Noted, Op, Seed, Sign};
 use std::alloc::Global;
 

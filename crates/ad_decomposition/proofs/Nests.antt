@@ -7,7 +7,7 @@ use Rattle.ad_base.specs.declared.limits.Side.{Side}
 use Rattle.ad_bits.specs.Rows.{has}
 use Rattle.ad_theory.specs.Genuine.{IsGenuine}
 use Rattle.ad_theory.specs.Numbers.{among}
-use Rattle.ad_theory.specs.Rows.{Tables}
+use Rattle.ad_tables.specs.Rows.{Tables}
 use Rattle.ad_theory.proofs.GenuineLemmas.{numbered_nested}
 use Rattle.ad_decomposition.specs.Tables.{AreGenuine, AreNested, is_in, is_in_row_of}
 

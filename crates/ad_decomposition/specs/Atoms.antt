@@ -3,7 +3,7 @@
 use Rattle.std.specs.Prelude.{◌≡◌, ℕ, ◌<◌, ◌&&◌, ◌||◌, not, Bool, List, [], ◌∷◌, Option, None, length, map, if◌then◌else◌, slice_index_or}
 use Rattle.std.specs.List.{Contains, filter, list_all, list_any, position}
 use Rattle.ad_bits.specs.Rows.{has}
-use Rattle.ad_theory.specs.Rows.{Numbered}
+use Rattle.ad_tables.specs.Rows.{Numbered}
 
 module _ {A : Type 0} (G : A → A → Bool) (order : List A) where
   -- a depends on b: the genuine module of b lies in that of a

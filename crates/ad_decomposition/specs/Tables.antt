@@ -5,7 +5,7 @@ use Rattle.ad_base.specs.declared.limits.Kind.{Kind}
 use Rattle.ad_base.specs.declared.limits.Side.{Side}
 use Rattle.ad_bits.specs.Rows.{has}
 use Rattle.ad_theory.specs.Genuine.{IsGenuine}
-use Rattle.ad_theory.specs.Rows.{Tables, row_of}
+use Rattle.ad_tables.specs.Rows.{Tables, row_of}
 
 -- the tables hold, for each kind, the genuine module of each live axiom as a row over so many slots, and nothing else
 pub record AreGenuine (symbols : ℕ → List ℕ) (local : Side → (ℕ → Bool) → ℕ → Bool) (live : ℕ → Bool) (slots : ℕ) (tables : Tables) : Type 0 where

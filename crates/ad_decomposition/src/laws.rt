@@ -1,7 +1,7 @@
 ghost use Rattle.std.specs.Prelude.{◌≡◌, ◌↔◌, ◌<◌, ℕ, Bool, List, Some, None, length, slice_index_or, IsTrue, IsFalse};
 ghost use Rattle.std.specs.List.{Contains};
 ghost use Rattle.ad_base.specs.declared.limits.Kind.{Kind};
-ghost use Rattle.ad_theory.specs.Rows.{Tables};
+ghost use Rattle.ad_tables.specs.Rows.{Tables};
 ghost use Rattle.ad_decomposition.specs.Atoms.{atom_of, firsts, covers, depends, depends_strictly};
 ghost use Rattle.ad_decomposition.specs.Tables.{AreGenuine, AreNested, is_in_row_of};
 

@@ -9,7 +9,7 @@ use Rattle.std.proofs.lemmas.List.Sums.{AllPass-from_list_all}
 use Rattle.ad_base.specs.declared.limits.Kind.TheVariants.{Star}
 use Rattle.ad_bits.proofs.Rows.{within_size}
 use Rattle.ad_theory.specs.Numbers.{among}
-use Rattle.ad_theory.specs.Rows.{Tables, Numbered, row_of}
+use Rattle.ad_tables.specs.Rows.{Tables, Numbered, row_of}
 use Rattle.ad_theory.proofs.Members.{either, not_both, or_left, or_right, or_cases, and_left, and_right, not_true, has_of_contains, contains_of_has, has_of_any, Has}
 use Rattle.ad_decomposition.specs.Atoms.{AreAtoms}
 use Rattle.ad_decomposition.specs.Tables.{is_in, is_in_row_of, AreNested, HaveRows}

@@ -3,7 +3,7 @@ use Rattle.std.specs.Prelude.{◌==◌, ℕ, ◌&&◌, ◌||◌, not, Bool, true
 use Rattle.std.specs.List.{list_all, list_any, range_with_len}
 use Rattle.ad_base.specs.declared.limits.Kind.TheVariants.{Star}
 use Rattle.ad_theory.specs.Numbers.{among}
-use Rattle.ad_theory.specs.Rows.{Tables}
+use Rattle.ad_tables.specs.Rows.{Tables}
 use Rattle.ad_decomposition.specs.Tables.{is_in_row_of}
 
 -- star rows alone

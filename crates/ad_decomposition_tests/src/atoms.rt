@@ -1,6 +1,6 @@
 use crate::found::find;
 use ad_base::Memory;
-use ad_theory::Atoms;
+use ad_tables::Atoms;
 use std::alloc::Global;
 use std::test::Fail;
 

@@ -4,7 +4,8 @@ ghost use Rattle.ad_decomposition_tests.specs.Modules.{is_example, tables_of};
 use ad_base::{Kind, Memory};
 use ad_bits::Row;
 use ad_depend::Covers;
-use ad_theory::{Atoms, Rows, empty_row};
+use ad_tables::{Atoms, Rows};
+use ad_theory::empty_row;
 use std::alloc::Global;
 use std::sync::Arc;
 

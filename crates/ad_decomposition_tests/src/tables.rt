@@ -2,7 +2,8 @@ ghost use Rattle.std.specs.Prelude.{◌≡◌, length, IfOk};
 
 use ad_base::{Kind, Memory};
 use ad_bits::Row;
-use ad_theory::{Results, Rows, empty_row};
+use ad_tables::{Results, Rows};
+use ad_theory::empty_row;
 use std::alloc::Global;
 use std::sync::Arc;
 use std::test::Fail;

@@ -7,7 +7,7 @@ use Rattle.std.proofs.lemmas.List.{get_or_default}
 use Rattle.std.proofs.lemmas.List.Quantifiers.{position-Some}
 use Rattle.ad_base.specs.declared.limits.Kind.{Kind}
 use Rattle.ad_bits.specs.Rows.{has, IsLeastFrom}
-use Rattle.ad_theory.specs.Rows.{Tables, Numbered, row_of}
+use Rattle.ad_tables.specs.Rows.{Tables, Numbered, row_of}
 use Rattle.ad_theory.proofs.Members.{either, not_both, has_get_or}
 use Rattle.ad_decomposition.specs.Atoms.{atom_of, depends, depends_strictly, firsts, same_module}
 use Rattle.ad_decomposition.specs.Tables.{AreNested, is_in, is_in_row_of}

@@ -2,7 +2,7 @@
 use Rattle.std.specs.Prelude.{◌≡◌, ◌≢◌, ℕ, ◌<◌, Bool, List, [], Option, Some, None, length, slice_index_or, IsTrue}
 use Rattle.ad_base.specs.declared.limits.Kind.{Kind}
 use Rattle.ad_bits.specs.Rows.{has}
-use Rattle.ad_theory.specs.Rows.{Tables, Numbered, of_kind}
+use Rattle.ad_tables.specs.Rows.{Tables, Numbered, of_kind}
 use Rattle.ad_decomposition.specs.Atoms.{AreAtoms, depends_strictly, firsts}
 use Rattle.ad_decomposition.specs.Tables.{AreNested, HaveRows, is_in_row_of}
 use Rattle.ad_depend.specs.Reduction.{AreSquare}

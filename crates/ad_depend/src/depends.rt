@@ -6,7 +6,8 @@ ghost use Rattle.ad_depend.specs.Numbering.{AreAtomsOfOrder, AreAtomsOfRows, Are
 
 use ad_base::{Kind, Memory};
 use ad_bits::Row;
-use ad_theory::{Atoms, Rows, empty_row};
+use ad_tables::{Atoms, Rows};
+use ad_theory::empty_row;
 use std::alloc::Global;
 
 // Adds the atom, where there is one, unless it is `but`.

@@ -1,6 +1,6 @@
 ghost use Rattle.std.specs.Prelude.{◌≡◌, ◌<◌, ℕ, List, length, slice_index_or, IfOk};
 ghost use Rattle.ad_bits.specs.Rows.{has};
-ghost use Rattle.ad_theory.specs.Rows.{of_kind};
+ghost use Rattle.ad_tables.specs.Rows.{of_kind};
 ghost use Rattle.ad_decomposition.specs.Atoms.{AreAtoms, AreCovers, is_top};
 ghost use Rattle.ad_decomposition.specs.Tables.{AreNested, HaveRows, is_in_row_of};
 ghost use Rattle.ad_depend.specs.Numbering.{AreAtomsOfRows};
@@ -9,7 +9,7 @@ use crate::depends::dependencies;
 use crate::found::Covers;
 use crate::reduction::{all_reduced, uncovered};
 use ad_base::{Kind, Memory};
-use ad_theory::{Atoms, Rows};
+use ad_tables::{Atoms, Rows};
 use std::alloc::Global;
 
 /// The covers of the atoms that rows have.

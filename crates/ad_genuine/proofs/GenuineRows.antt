@@ -6,7 +6,7 @@ use Rattle.ad_base.specs.declared.limits.Side.{Side}
 use Rattle.ad_bits.specs.Rows.{has}
 use Rattle.ad_theory.specs.Genuine.{IsGenuine}
 use Rattle.ad_theory.specs.Numbers.{among, IsNumberedModule}
-use Rattle.ad_theory.specs.Rows.{Tables, row_of}
+use Rattle.ad_tables.specs.Rows.{Tables, row_of}
 use Rattle.ad_theory.proofs.Members.{either}
 use Rattle.ad_decomposition.specs.Tables.{AreGenuine}
 use Rattle.ad_genuine.specs.declared.found.Found.{Found}

@@ -3,7 +3,7 @@ use Rattle.std.proofs.Common.{◌≡◌, ℕ, ◌<◌, Bool, List, Some, None, l
 use Rattle.std.proofs.lemmas.List.{get_or-set_same}
 use Rattle.ad_base.specs.declared.limits.Kind.{Kind}
 use Rattle.ad_base.specs.declared.limits.Kind.TheVariants.{Bottom, Top, Star}
-use Rattle.ad_theory.specs.Rows.{Tables, of_kind, row_of, with_row}
+use Rattle.ad_tables.specs.Rows.{Tables, of_kind, row_of, with_row}
 
 -- the tables with the rows f of a slot
 abbrev pub with_each : Tables → ℕ → (Kind → List Bool) → Tables

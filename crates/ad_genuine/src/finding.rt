@@ -9,7 +9,8 @@ use crate::grouping::grouped;
 use crate::parts::find_shared;
 use crate::tables::rows_for;
 use ad_base::{Limits, Memory};
-use ad_theory::{Extractor, Rows, Tally, Universe};
+use ad_tables::Rows;
+use ad_theory::{Extractor, Tally, Universe};
 use std::alloc::Global;
 use std::thread::Threads;
 

@@ -1,12 +1,12 @@
 ghost use Rattle.std.specs.Prelude.{◌≡◌, ◌≢◌, ◌<◌, ◌^◌, ℕ, [], Some, None, length, slice_index_or, IfOk, OnOk};
 ghost use Rattle.std.specs.Option.{option_map};
 ghost use Rattle.ad_base.specs.declared.limits.Kind.{Kind};
-ghost use Rattle.ad_theory.specs.Rows.{of_kind, row_of};
+ghost use Rattle.ad_tables.specs.Rows.{of_kind, row_of};
 ghost use Rattle.ad_genuine.specs.Found.{rows_of_kind};
 
 use crate::found::Found;
 use ad_base::{Kind, Memory};
-use ad_theory::Rows;
+use ad_tables::Rows;
 use std::alloc::Global;
 
 // Gives the slot the rows of its group, where it has one.

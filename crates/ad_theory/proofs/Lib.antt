@@ -8,4 +8,3 @@ pub mod ChangeLemmas
 pub mod KindLemmas
 pub mod NumberLemmas
 pub mod GenuineLemmas
-pub mod RowLemmas

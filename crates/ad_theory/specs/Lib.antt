@@ -6,5 +6,4 @@ pub mod Alternation
 pub mod Change
 pub mod Tally
 pub mod Numbers
-pub mod Rows
 pub mod Genuine

@@ -2,7 +2,7 @@
 use Rattle.std.proofs.Common.{◌+◌, ◌<◌, [], ◌∷◌, ◌++◌, is_some, length, get_or, take, sym, ◌∙◌, ap, arith}
 use Rattle.std.proofs.lemmas.List.{take_more, take_all, length-take}
 use Rattle.std.proofs.lemmas.List.Elements.{Contains-get_or}
-use Rattle.ad_theory.specs.Rows.{Numbered}
+use Rattle.ad_tables.specs.Rows.{Numbered}
 use Rattle.ad_decomposition.specs.Tables.{is_in_row_of}
 use Rattle.ad_atoms.proofs.RowLemmas.{row_size, is_in_has, entry_free}
 use Rattle.ad_atoms.proofs.Steps.{with_tautology, with_first, atoms_as, all_done, length-firsts, tautologies-le, tautology_done, member_done, size_is, first_done}

@@ -1,5 +1,5 @@
 use Rattle.std.proofs.Common.{◌≡◌, length, take}
-use Rattle.ad_theory.specs.Rows.{of_kind}
+use Rattle.ad_tables.specs.Rows.{of_kind}
 use Rattle.ad_decomposition.specs.Tables.{is_in_row_of}
 use Rattle.ad_atoms.specs.Numbering.{AreAtomsOf}
 use Rattle.ad_atoms.proofs.numbering.atoms.Given as goal

@@ -3,7 +3,7 @@ use Rattle.std.proofs.Common.{◌≡◌, ℕ, ◌+◌, ◌<◌, ◌&&◌, Bool, 
 use Rattle.ad_bits.specs.Rows.{has, IsLeastFrom}
 use Rattle.ad_bits.proofs.Rows.{within_size}
 use Rattle.ad_base.specs.declared.limits.Kind.{Kind}
-use Rattle.ad_theory.specs.Rows.{Tables, row_of}
+use Rattle.ad_tables.specs.Rows.{Tables, row_of}
 use Rattle.ad_theory.proofs.Members.{and_intro, and_left}
 use Rattle.ad_decomposition.specs.Tables.{is_in_row_of}
 use Rattle.ad_atoms.specs.Numbering.{is_mutual, joins}

@@ -2,7 +2,7 @@
 use Rattle.std.proofs.Common.{◌↔◌, ℕ, IsTrue, sym, ◌∙◌, ap}
 use Rattle.std.proofs.lemmas.Result.{IfOk-weaker}
 use Rattle.ad_bits.specs.Rows.{has}
-use Rattle.ad_theory.specs.Rows.{row_of}
+use Rattle.ad_tables.specs.Rows.{row_of}
 use Rattle.ad_decomposition.specs.Tables.{is_in_row_of}
 use Rattle.ad_depend.specs.Numbering.{HasDependencies, StandsIn}
 use Rattle.ad_depend.proofs.NumberingLemmas.{first_has_row, has_dependencies}

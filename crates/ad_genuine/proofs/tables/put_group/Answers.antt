@@ -3,7 +3,7 @@ use Rattle.std.proofs.Common.{◌≡◌, ◌<◌, Bool, List, [], length, slice_
 use Rattle.std.specs.Option.{option_map}
 use Rattle.ad_base.specs.declared.limits.Kind.{Kind}
 use Rattle.ad_base.specs.declared.limits.Kind.TheVariants.{Bottom, Top, Star}
-use Rattle.ad_theory.specs.Rows.{Tables, of_kind, row_of, with_row}
+use Rattle.ad_tables.specs.Rows.{Tables, of_kind, row_of, with_row}
 use Rattle.ad_genuine.specs.Found.{rows_of_kind}
 use Rattle.ad_genuine.proofs.TableLemmas.{with_each, row_of-with_each}
 use Rattle.ad_genuine.proofs.tables.put_group.Goals as goal

@@ -2,7 +2,7 @@
 use Rattle.std.proofs.Common.{◌≡◌, ℕ, ◌<◌, ◌≤◌, [], None, length, slice_index_or}
 use Rattle.std.specs.Option.{option_map}
 use Rattle.ad_base.specs.declared.limits.Kind.{Kind}
-use Rattle.ad_theory.specs.Rows.{of_kind, row_of}
+use Rattle.ad_tables.specs.Rows.{of_kind, row_of}
 use Rattle.ad_genuine.specs.Found.{rows_of_kind}
 use Rattle.ad_genuine.proofs.tables.rows_for.Given as goal
 

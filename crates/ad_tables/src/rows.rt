@@ -1,7 +1,7 @@
 ghost use Rattle.std.specs.Prelude.{◌≡◌, ◌<◌, None, Some, length, replicate, set, IfOk};
 ghost use Rattle.std.specs.Option.{option_map};
 ghost use Rattle.std.specs.Arc.{arc_value};
-ghost use Rattle.ad_theory.specs.Rows.{rows_in, row_of, without_rows, with_row, of_kind};
+ghost use Rattle.ad_tables.specs.Rows.{rows_in, row_of, without_rows, with_row, of_kind};
 
 use ad_base::{Kind, Memory};
 use ad_bits::Row;
@@ -20,7 +20,7 @@ pub struct Rows {
 
 impl Model for Rows {
     ghost use Rattle.std.specs.Prelude.{◌≡◌, ◌<◌, ◌^◌, length};
-    ghost use Rattle.ad_theory.specs.Rows.{Tables, rows_in};
+    ghost use Rattle.ad_tables.specs.Rows.{Tables, rows_in};
 
     ghost Value = { Tables };
 

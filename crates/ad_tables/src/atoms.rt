@@ -1,5 +1,5 @@
 ghost use Rattle.std.specs.Prelude.{◌≡◌, ◌<◌, ◌^◌, None, length, slice_index, slice_index_or};
-ghost use Rattle.ad_theory.specs.Rows.{Numbered};
+ghost use Rattle.ad_tables.specs.Rows.{Numbered};
 
 use std::marker::Model;
 
@@ -14,7 +14,7 @@ pub struct Atoms {
 
 impl Model for Atoms {
     ghost use Rattle.std.specs.Prelude.{◌≡◌, ◌<◌, ◌^◌, length};
-    ghost use Rattle.ad_theory.specs.Rows.{Numbered};
+    ghost use Rattle.ad_tables.specs.Rows.{Numbered};
 
     ghost Value = { Numbered };
 

@@ -1,5 +1,5 @@
-use Rattle.ad_theory.proofs.RowLemmas.{none_in}
-use Rattle.ad_theory.proofs.rows.Rows.new.Goals as goal
+use Rattle.ad_tables.proofs.RowLemmas.{none_in}
+use Rattle.ad_tables.proofs.rows.Rows.new.Goals as goal
 
 pub returns : goal.returns
 returns c =
