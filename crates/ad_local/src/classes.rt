@@ -4,10 +4,9 @@ ghost use Rattle.ad_entity.specs.declared.entities.EntityKind.TheVariants as kin
 
 use crate::names::{name_surely, property_surely};
 use crate::ranges::range_surely;
-use crate::table::{
-    NONE_OF_ALL, all_of, at_least, at_most, both, complement, either, enumeration, exactly, some_of,
-};
+use crate::table::{NONE_OF_ALL, both, either};
 use ad_base::{Side, Word};
+use ad_columns::{all_of, at_least, at_most, complement, enumeration, exactly, some_of};
 use ad_locality::{EVERYTHING, NOTHING, Surely};
 use ad_tree::{Class, EntityKind, Range, Seen};
 

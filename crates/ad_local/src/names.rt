@@ -1,8 +1,8 @@
 ghost use Rattle.std.specs.Prelude.{◌≡◌};
 ghost use Rattle.ad_locality.specs.Locality as table;
 
-use crate::table::unless_seen;
 use ad_base::{Side, Word};
+use ad_columns::unless_seen;
 use ad_locality::{Surely, standing};
 use ad_tree::{EntityKind, ObjProp, Seen};
 

@@ -2,8 +2,9 @@ ghost use Rattle.std.specs.Prelude.{◌≡◌, map};
 ghost use Rattle.ad_locality.specs.Locality as table;
 
 use crate::names::name_surely;
-use crate::table::{NONE_OF_ALL, both, complement, either, enumeration, restricted};
+use crate::table::{NONE_OF_ALL, both, either};
 use ad_base::Side;
+use ad_columns::{complement, enumeration, restricted};
 use ad_locality::{NOTHING, Surely};
 use ad_tree::{EntityKind, Range, Seen};
 

@@ -1,27 +1,7 @@
-ghost use Rattle.std.specs.Prelude.{◌≡◌, false, cond};
+ghost use Rattle.std.specs.Prelude.{◌≡◌};
 ghost use Rattle.ad_local.specs.Pairs.{both_of, either_of};
-ghost use Rattle.ad_locality.specs.Columns.{neither};
-ghost use Rattle.ad_locality.specs.Locality as table;
 
-use ad_base::Side;
-use ad_locality::{EVERYTHING, INHABITED, NEITHER, NOTHING, Surely};
-
-// A name outside is read as empty on the bottom side, and as everything on the top side.
-pub(crate) fn outside(side: Side) -> Surely
-    ensures { result ≡ table.outside side }
-{
-    match side {
-        Side::Bottom => NOTHING,
-        Side::Top => EVERYTHING,
-    }
-}
-
-// Of a seen name nothing is sure, and any other is outside.
-pub(crate) fn unless_seen(is_seen: bool, side: Side) -> Surely
-    ensures { result ≡ cond is_seen neither (table.outside side) }
-{
-    if is_seen { NEITHER } else { outside(side) }
-}
+use ad_locality::Surely;
 
 // An intersection of no operands, to which operands are added.
 pub(crate) const NONE_OF_ALL: Surely = Surely {
@@ -49,102 +29,5 @@ pub(crate) fn either(a: Surely, b: Surely) -> Surely
         empty: a.empty && b.empty,
         whole: a.whole || b.whole,
         nonempty: a.nonempty || b.nonempty,
-    }
-}
-
-// Not C: the first two columns change places.
-pub(crate) fn complement(c: Surely) -> Surely
-    ensures { result ≡ table.complement c }
-{
-    Surely {
-        empty: c.whole,
-        whole: c.empty,
-        nonempty: c.empty,
-    }
-}
-
-// One of these members: it isn't empty where there is one.
-pub(crate) fn enumeration<X>(members: &[X]) -> Surely
-    ensures { result ≡ table.enumeration members.now }
-{
-    match members.first() {
-        Some(_) => INHABITED,
-        None => NEITHER,
-    }
-}
-
-// Some R C: everything where R relates all to all and C has a member.
-pub(crate) fn some_of(r: Surely, c: Surely) -> Surely
-    ensures { result ≡ table.some_of r c }
-{
-    let all = r.whole && c.nonempty;
-    Surely {
-        empty: r.empty || c.empty,
-        whole: all,
-        nonempty: all,
-    }
-}
-
-// All R C.
-pub(crate) fn all_of(r: Surely, c: Surely) -> Surely
-    ensures { result ≡ table.all_of r c }
-{
-    let all = r.empty || c.whole;
-    Surely {
-        empty: r.whole && c.empty,
-        whole: all,
-        nonempty: all,
-    }
-}
-
-// Min n R C: min 0 is everything.
-pub(crate) fn at_least(n: u32, r: Surely, c: Surely) -> Surely
-    ensures { result ≡ table.at_least n r c }
-{
-    if n == 0 {
-        return EVERYTHING;
-    }
-    let all = n == 1 && r.whole && c.nonempty;
-    Surely {
-        empty: r.empty || c.empty,
-        whole: all,
-        nonempty: all,
-    }
-}
-
-// Max n R C.
-pub(crate) fn at_most(n: u32, r: Surely, c: Surely) -> Surely
-    ensures { result ≡ table.at_most n r c }
-{
-    let all = r.empty || c.empty;
-    Surely {
-        empty: n == 0 && r.whole && c.nonempty,
-        whole: all,
-        nonempty: all,
-    }
-}
-
-// Exact n R C: exact 0 is as max 0.
-pub(crate) fn exactly(n: u32, r: Surely, c: Surely) -> Surely
-    ensures { result ≡ table.exactly n r c }
-{
-    if n == 0 {
-        return at_most(0, r, c);
-    }
-    Surely {
-        empty: r.empty || c.empty,
-        whole: false,
-        nonempty: false,
-    }
-}
-
-// A restriction of a datatype by facets: no value need be left.
-pub(crate) fn restricted(datatype: Surely) -> Surely
-    ensures { result ≡ record { empty = datatype.empty; whole = false; nonempty = false } }
-{
-    Surely {
-        empty: datatype.empty,
-        whole: false,
-        nonempty: false,
     }
 }

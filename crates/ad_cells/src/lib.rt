@@ -1,0 +1,8 @@
+//! Axioms as lists of cells, and whether such an axiom is local for a set of numbers.
+#![tactic(auto)]
+
+pub use cell::{Cell, Test};
+pub use operands::Operands;
+
+mod cell;
+mod operands;
