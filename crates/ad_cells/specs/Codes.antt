@@ -1,8 +1,9 @@
 -- What a code means: it is read from left to right over a stack of what is sure of operands. An empty stack has operands of
 -- which nothing is sure, so every list of cells means something.
-use Rattle.std.specs.Prelude.{ℕ, zero, suc, Bool, true, false, cond, ◌&&◌, ◌||◌, List, [], ◌∷◌, nat_eq}
+use Rattle.std.specs.Prelude.{ℕ, zero, suc, IsTrue, Bool, true, false, cond, ◌&&◌, ◌||◌, List, [], ◌∷◌, nat_eq}
 use Rattle.std.specs.List.{flat_map}
 use Rattle.ad_base.specs.declared.limits.Side.{Side}
+use Rattle.ad_theory.specs.Numbers.{among}
 use Rattle.ad_locality.specs.Columns.{neither}
 use Rattle.ad_locality.specs.Locality.{outside, complement, some_of, all_of, at_least, at_most, exactly}
 use Rattle.ad_locality.specs.declared.surely.Surely.{Surely}
@@ -122,3 +123,8 @@ symbol_in (cells.Exactly n) = []
 
 abbrev pub symbols_of : List Cell → List ℕ
 symbols_of code = flat_map symbol_in code
+
+-- An axiom that is local where T says what is seen is local where fewer of its own numbers are. So locality shrinks as more
+-- is seen, and reads no other numbers.
+abbrev pub CodesShrink : Type 0
+CodesShrink = (side : Side) (S T : ℕ → Bool) (test : Test) (code : List Cell) → ((n : ℕ) → IsTrue (among (symbols_of code) n) → IsTrue (S n) → IsTrue (T n)) → IsTrue (is_local_code side T test code) → IsTrue (is_local_code side S test code)

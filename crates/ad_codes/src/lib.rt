@@ -1,0 +1,6 @@
+//! The axioms of an ontology as codes: lists of cells that stand for their trees.
+#![tactic(auto)]
+
+pub use laws::codes_are_trees;
+
+mod laws;
