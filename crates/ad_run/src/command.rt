@@ -14,7 +14,7 @@ use ad_base::{Memory, Side, Word, number};
 use ad_tree::{Entity, EntityKind, Seed};
 use std::alloc::Global;
 
-/// What the words ask for.
+// What the words ask for.
 #[derive(Clone, Copy)]
 pub(crate) enum Asked {
     /// The module of this side.
@@ -24,7 +24,7 @@ pub(crate) enum Asked {
     Nothing,
 }
 
-/// What the words ask for. It takes no memory.
+// What the words ask for. It takes no memory.
 pub(crate) fn read_words(words: &[Word]) -> Asked
     ensures { AsksFor words.now result }
 {
@@ -166,7 +166,7 @@ fn is_iri_byte(byte: u8) -> bool
     !matches!(byte, b' ' | b'\t' | b'\r' | b'\n' | b'<' | b'>' | b'"')
 }
 
-/// The entities that the words of a module name.
+// The entities that the words of a module name.
 pub(crate) fn named_seed(alloc: Global, side: Side, words: &[Word]) -> Result<Seed, Memory>
     requires { module_side words.now ≡ Some side }
     ensures { IfOk result (λ seed. IsCommand words.now (of_module (kind_of side) seed)) }

@@ -12,7 +12,7 @@ use ad_tree::Seed;
 use ad_write::write_document;
 use std::alloc::Global;
 
-/// Writes the document of a text's module for the seed.
+// Writes the document of a text's module for the seed.
 pub(crate) fn answer_module<K: Sink>(
     alloc: Global,
     side: Side,

@@ -8,7 +8,7 @@ use ad_read::{ReadRefused, read_document};
 use ad_reply::Refusal;
 use std::alloc::Global;
 
-/// Why a text gave no ontology.
+// Why a text gave no ontology.
 #[derive(Clone, Copy)]
 pub(crate) enum Unread {
     /// It is no document of an ontology within the limits, for this cause.
@@ -16,7 +16,7 @@ pub(crate) enum Unread {
     Memory,
 }
 
-/// The edition that the document alone makes.
+// The edition that the document alone makes.
 pub(crate) fn edition_of(alloc: Global, text: &[u8]) -> Result<Edition, Unread>
     requires { length text.now < 2 ^ 32 }
     ensures read { IfOk result (λ edition. IsOntology text.now edition.shown.axioms) }

@@ -11,7 +11,7 @@ use ad_io::{Sink, Source};
 use ad_session::{End, Work, session};
 use std::alloc::Global;
 
-/// Runs the session whose requests are on the source, over a machine of one session that begins without axioms.
+// Runs the session whose requests are on the source, over a machine of one session that begins without axioms.
 pub(crate) fn run_script<S: Source, K: Sink>(
     alloc: Global,
     workers: u32,

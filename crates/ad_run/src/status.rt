@@ -7,7 +7,7 @@ ghost use Rattle.ad_run.specs.Statuses.{code_of};
 use ad_io::{Sink, Wrote, put_all};
 use ad_reply::{Refusal, explain};
 
-/// How a run ends.
+// How a run ends.
 #[derive(Clone, Copy)]
 pub(crate) enum Status {
     /// All was written.
@@ -31,7 +31,7 @@ pub(crate) enum Status {
 }
 
 impl Status {
-    /// The exit status.
+    // The exit status.
     pub(crate) fn code(self) -> u8
         ensures { result ≡ code_of self }
     {
@@ -45,7 +45,7 @@ impl Status {
         }
     }
 
-    /// Tells the status in a line, and gives the exit status.
+    // Tells the status in a line, and gives the exit status.
     pub(crate) fn end<N: Sink>(self, notes: &mut N) -> u8
         ensures code { result ≡ code_of self }
         ensures told { IsNoted (N.written notes.old) (N.written notes.new) (N.faults notes.old) (N.faults notes.new) (note_of self) }
@@ -54,7 +54,7 @@ impl Status {
         self.code()
     }
 
-    /// Tells the status in a line.
+    // Tells the status in a line.
     pub(crate) fn tell<N: Sink>(self, notes: &mut N) -> Wrote
         ensures bytes { Puts (N.written notes.old) (N.written notes.new) result (note_of self) }
         ensures cause { PutCause (N.faults notes.old) (N.faults notes.new) result }

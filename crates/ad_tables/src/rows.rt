@@ -30,7 +30,7 @@ impl Model for Rows {
         × (length rows.star.items ≡ length rows.bottom.items) };
 }
 
-/// So many slots without a row.
+// So many slots without a row.
 fn no_rows(alloc: Global, slots: u32) -> Result<Vec<Option<Arc<Row>>>, Memory>
     ensures { IfOk result (λ rows. rows.items ≡ replicate slots None) }
 {
@@ -41,7 +41,7 @@ fn no_rows(alloc: Global, slots: u32) -> Result<Vec<Option<Arc<Row>>>, Memory>
     Ok(rows)
 }
 
-/// Gives the slot this row.
+// Gives the slot this row.
 fn put(rows: &mut Vec<Option<Arc<Row>>>, slot: u32, row: Arc<Row>)
     requires { slot < length rows.old.items }
     ensures { rows_in rows.new.items ≡ set (rows_in rows.old.items) slot (Some (arc_value row)) }
