@@ -2,7 +2,9 @@
 #![tactic(auto)]
 
 pub use cell::{Cell, Test};
+pub use laws::codes_shrink;
 pub use operands::Operands;
 
 mod cell;
+mod laws;
 mod operands;
