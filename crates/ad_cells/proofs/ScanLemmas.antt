@@ -7,7 +7,7 @@ use Rattle.ad_cells.specs.declared.operands.Operands.{Operands}
 use Rattle.ad_cells.specs.declared.scan.Gathered.{Gathered}
 use Rattle.ad_cells.specs.declared.scan.Scanned.{Scanned}
 use Rattle.ad_cells.specs.declared.scan.ScannedPair.{ScannedPair}
-use Rattle.ad_cells.specs.Codes.{blank, before, top, under, taken, joined, on_one, on_two, step, run}
+use Rattle.ad_cells.specs.Codes.{before, top, under, taken, joined, on_one, on_two, step, run}
 use Rattle.ad_cells.specs.Scans.{stack_after, Scans, ScansPair, Gathers}
 
 module _ (side : Side) (seen : ℕ → Bool) where

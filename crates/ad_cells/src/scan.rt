@@ -185,8 +185,8 @@ pub fn is_local(test: Test, code: &[Cell], side: Side, seen: &Row) -> bool
         Test::Below => is_below(code, side, seen),
         Test::ChainBelow(count) => is_chain_below(code, side, seen, count),
         Test::Equivalent(count) => {
-            let classes = last_operands(code, side, seen, count);
-            (classes.all_empty || classes.all_whole) || count == 1
+            let operands = last_operands(code, side, seen, count);
+            (operands.all_empty || operands.all_whole) || count == 1
         }
         Test::Disjoint(count) => last_operands(code, side, seen, count).disjoint,
         Test::DisjointUnion(count) => is_disjoint_union(code, side, seen, count),

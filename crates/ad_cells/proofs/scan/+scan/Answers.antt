@@ -1,8 +1,8 @@
-use Rattle.std.proofs.Common.{◌≡◌, ℕ, ◌+◌, ◌-◌, ◌∙◌, cond, ap, sym, refl, arith}
+use Rattle.std.proofs.Common.{◌+◌, ◌-◌, ◌∙◌, cond, ap, sym, refl, arith}
 use Rattle.ad_bits.specs.Rows.{has}
 use Rattle.ad_locality.specs.Columns.{neither}
 use Rattle.ad_locality.specs.Locality.{outside, complement, some_of, all_of, at_least, at_most, exactly}
-use Rattle.ad_cells.specs.Codes.{intersection_of, union_of, restricted, taken}
+use Rattle.ad_cells.specs.Codes.{intersection_of, union_of, restricted, taken, top, under}
 use Rattle.ad_cells.specs.Scans.{stack_after}
 use Rattle.ad_cells.proofs.ScanLemmas.{scans_nothing, scans_operand, scans_one, scans_two, scans_joined, taken_more, taken_nothing}
 use Rattle.ad_cells.proofs.scan.+scan.Goals as goal
@@ -11,7 +11,7 @@ pub gather-loop-i-preserved : goal.gather-loop-i-preserved
 gather-loop-i-preserved t c =
     let stack = stack_after c.args.side (has c.args.seen.now) c.args.code.now in
     let found = c.scan-found.ensures in
-    let more = taken_more c.args.count c.loop-i._i c.loop-i.operands c.scan-found.result.surely (stack c.loop-i.rest) (stack c.scan-found.result.rest) c.loop-i-test.true found.surely found.rest in
+    let more = taken_more c.args.count c.loop-i._i c.loop-i.operands c.scan-found.result.surely (stack c.loop-i.rest) (stack c.scan-found.result.rest) (omega arith) found.surely found.rest in
     record {
       same = c.loop-i.invariant.same ∙ more ∙ ap (λ z. taken (c.args.count - (c.loop-i._i + 1)) z (stack c.scan-found.result.rest)) (sym c.before-operands.ensures);
       shorter = omega (arith, c.loop-i.invariant.shorter, found.shorter);
@@ -61,3 +61,14 @@ scan-returns-in-AtMost t c = scans_two _ _ _ _ _ _ (omega arith) c.requires c.in
 
 pub scan-returns-in-Exactly : goal.scan-returns-in-Exactly
 scan-returns-in-Exactly t c = scans_two _ _ _ _ _ _ (omega arith) c.requires c.in-Exactly.is (exactly c.in-Exactly.n) _ _ _ (λ _. refl) c.scan_pair-found-in-Exactly.ensures c.exactly.ensures c.new-in-Exactly.ensures
+
+pub scan_pair-returns : goal.scan_pair-returns
+scan_pair-returns t c =
+    let second = c.scan-second.ensures in
+    let first = c.scan-first.ensures in
+    record {
+      second = second.surely;
+      first = first.surely ∙ ap top second.rest;
+      rest = first.rest ∙ ap under second.rest;
+      shorter = omega (arith, second.shorter, first.shorter);
+    }
