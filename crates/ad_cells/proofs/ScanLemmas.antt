@@ -11,6 +11,7 @@ use Rattle.ad_cells.specs.Codes.{before, top, under, taken, joined, on_one, on_t
 use Rattle.ad_cells.specs.Scans.{stack_after, Scans, ScansPair, Gathers}
 
 module _ (side : Side) (seen : ℕ → Bool) where
+  -- one cell more
   run_last : (code : List Cell) (stack : List Surely) (k : ℕ) (d : Cell) → k < length code → run side seen stack (take (suc k) code) ≡ step side seen (get_or code k d) (run side seen stack (take k code))
   unfolding run
   run_last [] stack k d l = absurd (not-suc-le-zero l)
@@ -23,37 +24,47 @@ module _ (side : Side) (seen : ℕ → Bool) where
       let more : end ≡ suc (end - 1) = omega arith in
       ap (stack_after side seen code) more ∙ run_last code [] (end - 1) d (omega arith) ∙ ap (λ c. step side seen c (stack_after side seen code (end - 1))) e
 
+  scans_by : (code : List Cell) (end rest : ℕ) (surely : Surely) (result : Scanned) → result ≡ record { surely = surely; rest = rest } → surely ≡ top (stack_after side seen code end) → stack_after side seen code rest ≡ under (stack_after side seen code end) → rest ≤ end - 1 → Scans side seen code end result
+  scans_by code end rest surely result made e f l = record {
+    surely = ap (λ z. z.surely) made ∙ e;
+    rest = ap (λ z. stack_after side seen code z.rest) made ∙ f;
+    shorter = omega (arith, ap (λ z. z.rest) made, l);
+  }
+
   -- no cells
   pub scans_nothing : (code : List Cell) (end : ℕ) (result : Scanned) → end ≡ 0 → result ≡ record { surely = top []; rest = 0 } → Scans side seen code end result
   unfolding run
-  scans_nothing code zero result p made = record { surely = ap (λ z. z.surely) made; rest = ap (λ z. stack_after side seen code z.rest) made; shorter = omega (arith, ap (λ z. z.rest) made) }
+  scans_nothing code zero result p made = scans_by code 0 0 (top []) result made refl refl (omega arith)
   scans_nothing code (suc end) result p made = absurd (let l : 1 ≤ 0 = omega (arith, p) in not-suc-le-zero l)
 
   module _ (code : List Cell) (end : ℕ) (cell d : Cell) (some : 0 < end) (within : end ≤ length code) (is : get_or code (end - 1) d ≡ cell) where
+    after : (stack : List Surely) → step side seen cell (stack_after side seen code (end - 1)) ≡ stack → stack_after side seen code end ≡ stack
+    after stack e = stack_last code end cell d some within is ∙ e
+
     -- a cell that is an operand
     pub scans_operand : (operand surely : Surely) (result : Scanned) → ((s : List Surely) → step side seen cell s ≡ operand ∷ s) → surely ≡ operand → result ≡ record { surely = surely; rest = end - 1 } → Scans side seen code end result
     scans_operand operand surely result f e made =
-        let same = stack_last code end cell d some within is ∙ f (stack_after side seen code (end - 1)) in
-        record { surely = ap (λ z. z.surely) made ∙ e ∙ sym (ap top same); rest = ap (λ z. stack_after side seen code z.rest) made ∙ sym (ap under same); shorter = omega (arith, ap (λ z. z.rest) made) }
+        let same = after _ (f (stack_after side seen code (end - 1))) in
+        scans_by code end (end - 1) surely result made (e ∙ sym (ap top same)) (sym (ap under same)) (omega arith)
 
     -- an operator with one operand
     pub scans_one : (f : Surely → Surely) (found : Scanned) (surely : Surely) (result : Scanned) → ((s : List Surely) → step side seen cell s ≡ on_one f s) → Scans side seen code (end - 1) found → surely ≡ f found.surely → result ≡ record { surely = surely; rest = found.rest } → Scans side seen code end result
     scans_one f found surely result g h e made =
-        let same = stack_last code end cell d some within is ∙ g (stack_after side seen code (end - 1)) in
-        record { surely = ap (λ z. z.surely) made ∙ e ∙ ap f h.surely ∙ sym (ap top same); rest = ap (λ z. stack_after side seen code z.rest) made ∙ h.rest ∙ sym (ap under same); shorter = omega (arith, ap (λ z. z.rest) made, h.shorter) }
+        let same = after _ (g (stack_after side seen code (end - 1))) in
+        scans_by code end found.rest surely result made (e ∙ ap f h.surely ∙ sym (ap top same)) (h.rest ∙ sym (ap under same)) (omega (arith, h.shorter))
 
     -- an operator with two operands
     pub scans_two : (f : Surely → Surely → Surely) (found : ScannedPair) (surely : Surely) (result : Scanned) → ((s : List Surely) → step side seen cell s ≡ on_two f s) → ScansPair side seen code (end - 1) found → surely ≡ f found.first found.second → result ≡ record { surely = surely; rest = found.rest } → Scans side seen code end result
     scans_two f found surely result g h e made =
-        let same = stack_last code end cell d some within is ∙ g (stack_after side seen code (end - 1)) in
+        let same = after _ (g (stack_after side seen code (end - 1))) in
         let both = ap (λ c. f c found.second) h.first ∙ ap (λ c. f (top (under (stack_after side seen code (end - 1)))) c) h.second in
-        record { surely = ap (λ z. z.surely) made ∙ e ∙ both ∙ sym (ap top same); rest = ap (λ z. stack_after side seen code z.rest) made ∙ h.rest ∙ sym (ap under same); shorter = omega (arith, ap (λ z. z.rest) made, h.shorter) }
+        scans_by code end found.rest surely result made (e ∙ both ∙ sym (ap top same)) (h.rest ∙ sym (ap under same)) h.shorter
 
     -- an operator with so many operands
     pub scans_joined : (whole : Operands → Surely) (count : ℕ) (found : Gathered) (surely : Surely) (result : Scanned) → ((s : List Surely) → step side seen cell s ≡ joined whole count s) → Gathers side seen code (end - 1) count found → surely ≡ whole found.operands → result ≡ record { surely = surely; rest = found.rest } → Scans side seen code end result
     scans_joined whole count found surely result g h e made =
-        let same = stack_last code end cell d some within is ∙ g (stack_after side seen code (end - 1)) in
-        record { surely = ap (λ z. z.surely) made ∙ e ∙ ap whole h.operands ∙ sym (ap top same); rest = ap (λ z. stack_after side seen code z.rest) made ∙ h.rest ∙ sym (ap under same); shorter = omega (arith, ap (λ z. z.rest) made, h.shorter) }
+        let same = after _ (g (stack_after side seen code (end - 1))) in
+        scans_by code end found.rest surely result made (e ∙ ap whole h.operands ∙ sym (ap top same)) (h.rest ∙ sym (ap under same)) h.shorter
 
 -- one operand more is taken off
 pub taken_more : (n i : ℕ) (t : Operands) (c : Surely) (stack rest : List Surely) → i < n → c ≡ top stack → rest ≡ under stack → taken (n - i) t stack ≡ taken (n - (i + 1)) (before c t) rest
