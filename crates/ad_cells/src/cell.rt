@@ -3,7 +3,7 @@ use ad_locality::Surely;
 /// A step of an axiom's code, which is read from left to right over a stack: an operand puts what is sure of it on the
 /// stack, and an operator takes its operands off and puts what is sure of the whole. So operands stand before what takes
 /// them.
-#[derive(Clone, Copy, PartialEq, Eq)]
+#[derive(Clone, Copy)]
 pub enum Cell {
     /// An operand of which this is sure, whatever is seen: a built-in name, or an enumeration.
     Known(Surely),
@@ -32,7 +32,7 @@ pub enum Cell {
 }
 
 /// What is asked of the operands of an axiom, for it to be local. The code leaves them on the stack.
-#[derive(Clone, Copy, PartialEq, Eq)]
+#[derive(Clone, Copy)]
 pub enum Test {
     /// The last is empty, or the one before it is everything: what is below stands behind what is above.
     Below,
