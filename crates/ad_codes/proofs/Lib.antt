@@ -1,0 +1,5 @@
+pub mod CodeEquations
+pub mod Running
+pub mod Ranges
+pub mod Classes
+pub mod Axioms
