@@ -3,3 +3,5 @@ pub mod Running
 pub mod Ranges
 pub mod Classes
 pub mod Axioms
+pub mod Joining
+pub mod SignatureLemmas
