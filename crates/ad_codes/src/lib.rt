@@ -3,4 +3,9 @@
 
 pub use laws::codes_are_trees;
 
+mod axioms;
+mod buffer;
+mod classes;
 mod laws;
+mod names;
+mod ranges;
