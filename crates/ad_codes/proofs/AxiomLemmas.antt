@@ -1,5 +1,5 @@
 -- The code of an axiom is local exactly where the axiom is.
-use Rattle.std.proofs.Common.{◌≡◌, ℕ, suc, ◌+◌, Bool, ◌||◌, List, [], ◌∷◌, ◌++◌, length, map, Option, sym, ◌∙◌, ap, refl, arith, length-append}
+use Rattle.std.proofs.Common.{◌≡◌, ℕ, suc, ◌+◌, Bool, ◌||◌, List, [], ◌∷◌, ◌++◌, length, map, Option, sym, ◌∙◌, ap, refl, length-append}
 use Rattle.std.specs.List.{AllByRecursion, flat_map, list_any}
 use Rattle.std.proofs.lemmas.List.{length-map}
 use Rattle.std.proofs.lemmas.List.Folds.{list_any-append}
@@ -17,7 +17,7 @@ use Rattle.ad_cells.specs.declared.cell.Test.{Test}
 use Rattle.ad_cells.specs.declared.cell.Test.TheVariants as tests
 use Rattle.ad_cells.specs.Codes.{run, passes, is_local_code}
 use Rattle.ad_codes.specs.Encoded.{name_cell, property_cell, range_code, class_code, test_of, code_of}
-use Rattle.ad_codes.proofs.Running.{pushed, pushed-append, passes-equivalent, passes-disjoint, passes-any_empty, passes-chain, passes-disjoint_union, equivalent-two, PutsOne, Puts, puts-cell, puts-first, run-append, run-each, run-cells}
+use Rattle.ad_codes.proofs.Running.{pushed, pushed-append, passes-equivalent, passes-disjoint, passes-any_empty, passes-chain, passes-disjoint_union, equivalent-two, Puts, puts-cell, puts-first, run-append, run-each, run-cells}
 use Rattle.ad_codes.proofs.RangeLemmas.{seen_by, puts-name, puts-property, range_puts}
 use Rattle.ad_codes.proofs.ClassLemmas.{class_puts}
 
@@ -108,8 +108,8 @@ module _ (side : Side) (seen : ℕ → Bool) (number : Entity → Option ℕ) wh
   unfolding key_operands
   key_empty class objects values =
       ap (λ z. (class_is class).empty || z) (list_any-append (λ c. c.empty) (map property_is objects) (map data_is values)
-          ∙ ap (λ z. z || list_any (λ c. c.empty) (map data_is values)) (any_empty-map property_is objects)
-          ∙ ap (λ z. list_any (λ r. (property_is r).empty) objects || z) (any_empty-map data_is values))
+      ∙ ap (λ z. z || list_any (λ c. c.empty) (map data_is values)) (any_empty-map property_is objects)
+      ∙ ap (λ z. list_any (λ r. (property_is r).empty) objects || z) (any_empty-map data_is values))
 
   key : (class : Class) (objects : List ObjProp) (values : List (List ℕ)) → is_local_code side seen (tests.AnyEmpty (suc (length objects + length values))) (code_of number (axioms.HasKey class objects values)) ≡ local side here (axioms.HasKey class objects values)
   key class objects values =

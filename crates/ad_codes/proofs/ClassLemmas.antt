@@ -1,6 +1,5 @@
 -- The code of a class expression puts on the stack what the table says of the class.
-use Rattle.std.proofs.Common.{◌≡◌, ℕ, Bool, List, [], ◌∷◌, ◌++◌, Option, None, Some, IfSome, refl}
-use Rattle.std.specs.List.{AllByRecursion}
+use Rattle.std.proofs.Common.{◌≡◌, ℕ, Bool, List, Option, None, Some, IfSome, refl}
 use Rattle.ad_base.specs.declared.limits.Side.{Side}
 use Rattle.ad_locality.specs.Columns.{everything}
 use Rattle.ad_locality.specs.Locality.{name_surely, property_surely, range_surely, optional_range, class_surely, complement, enumeration, some_of, all_of, at_least, at_most, exactly}
@@ -8,7 +7,6 @@ use Rattle.ad_locality.specs.declared.surely.Surely.{Surely}
 use Rattle.ad_entity.specs.declared.entities.Entity.{Entity}
 use Rattle.ad_entity.specs.declared.entities.EntityKind.TheVariants as kinds
 use Rattle.ad_tree.specs.declared.names.ObjProp.{ObjProp}
-use Rattle.ad_tree.specs.declared.ranges.Range.{Range}
 use Rattle.ad_tree.specs.declared.classes.Class.{Class}
 use Rattle.ad_syntax_laws.proofs.Induction.{ClassCases, class_induction}
 use Rattle.ad_syntax_laws.proofs.Equations as eq

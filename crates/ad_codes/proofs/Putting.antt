@@ -1,5 +1,5 @@
 -- What is put into a buffer, one code after another.
-use Rattle.std.proofs.Common.{◌≡◌, ℕ, ◌+◌, ◌<◌, ◌≤◌, false, List, [], ◌∷◌, ◌++◌, length, get_or, take, map, sym, ◌∙◌, ap, refl, append_assoc, append-nil, subst}
+use Rattle.std.proofs.Common.{◌≡◌, ℕ, ◌+◌, ◌<◌, ◌≤◌, List, [], ◌∷◌, ◌++◌, length, get_or, take, map, sym, ◌∙◌, ap, append_assoc, append-nil, subst}
 use Rattle.std.specs.List.{flat_map}
 use Rattle.std.proofs.lemmas.List.{take_more, take_all, map_more}
 use Rattle.std.proofs.lemmas.List.Concat.{flat_map-append}
@@ -11,10 +11,12 @@ pub adds_nothing : (out : Buffer) → Adds out out []
 adds_nothing out = record { holds = λ e. (e, sym (append-nil out.cells.items)) }
 
 pub adds_after : {old middle new : Buffer} {first second : List Cell} → Adds old middle first → Adds middle new second → Adds old new (first ++ second)
-adds_after {old} {middle} {new} {first} {second} h k = record { holds = λ e.
-    let g = k.holds e in
-    let f = h.holds g.0 in
-    (f.0, g.1 ∙ ap (λ z. z ++ second) f.1 ∙ append_assoc old.cells.items first second) }
+adds_after {old} {middle} {new} {first} {second} h k = record {
+  holds = λ e.
+      let g = k.holds e in
+      let f = h.holds g.0 in
+      (f.0, g.1 ∙ ap (λ z. z ++ second) f.1 ∙ append_assoc old.cells.items first second);
+}
 
 -- a code that is the same
 pub adds_same : {old new : Buffer} {code layer : List Cell} → code ≡ layer → Adds old new layer → Adds old new code
@@ -26,11 +28,13 @@ adds_at code is e h = adds_same (ap code is ∙ e) h
 
 -- an operator with the number of its operands
 pub adds_counted : {old middle last new : Buffer} {code : List Cell} {many count : ℕ} (operator : ℕ → Cell) → Adds old middle code → Counts middle last many count → Adds last new (operator count ∷ []) → Adds old new (code ++ operator many ∷ [])
-adds_counted {old} {middle} {last} {new} {code} {many} {count} operator h m k = record { holds = λ e.
-    let g = k.holds e in
-    let f = m.holds g.0 in
-    let d = h.holds f.0 in
-    (d.0, g.1 ∙ ap (λ z. z ++ operator count ∷ []) (f.1 ∙ d.1) ∙ append_assoc old.cells.items code (operator count ∷ []) ∙ ap (λ z. old.cells.items ++ (code ++ operator z ∷ [])) f.2) }
+adds_counted {old} {middle} {last} {new} {code} {many} {count} operator h m k = record {
+  holds = λ e.
+      let g = k.holds e in
+      let f = m.holds g.0 in
+      let d = h.holds f.0 in
+      (d.0, g.1 ∙ ap (λ z. z ++ operator count ∷ []) (f.1 ∙ d.1) ∙ append_assoc old.cells.items code (operator count ∷ []) ∙ ap (λ z. old.cells.items ++ (code ++ operator z ∷ [])) f.2);
+}
 
 -- a loop that puts the code of each, and one that puts a cell for each
 flat_map-take_more : {X : Type 0} (f : X → List Cell) (xs : List X) (i : ℕ) (x : X) → i < length xs → x ≡ get_or xs i x → flat_map f (take (i + 1) xs) ≡ flat_map f (take i xs) ++ f x

@@ -1,5 +1,5 @@
 -- The code of a range puts on the stack what the table says of the range.
-use Rattle.std.proofs.Common.{◌≡◌, ℕ, Bool, false, cond, List, [], ◌∷◌, ◌++◌, map, Option, None, Some, sym, ◌∙◌, ap, refl}
+use Rattle.std.proofs.Common.{◌≡◌, ℕ, Bool, cond, List, [], ◌∷◌, Option, None, Some, sym, ◌∙◌, ap, refl}
 use Rattle.ad_base.specs.declared.limits.Side.{Side}
 use Rattle.ad_locality.specs.Columns.{builtin, neither, everything}
 use Rattle.ad_locality.specs.Locality.{outside, unless_builtin, name_surely, property_surely, range_surely, optional_range, complement, enumeration}
@@ -15,7 +15,7 @@ use Rattle.ad_syntax_laws.proofs.Induction.{RangeCases, range_induction}
 use Rattle.ad_syntax_laws.proofs.Equations as eq
 use Rattle.ad_cells.specs.declared.cell.Cell.{Cell}
 use Rattle.ad_cells.specs.declared.cell.Cell.TheVariants as cells
-use Rattle.ad_cells.specs.Codes.{step, run, restricted}
+use Rattle.ad_cells.specs.Codes.{run, restricted}
 use Rattle.ad_codes.specs.Encoded.{cell_of, name_cell, property_cell, range_code, optional_range_code}
 use Rattle.ad_codes.specs.Laws.{is_seen}
 use Rattle.ad_codes.proofs.CodeEquations as code

@@ -1,6 +1,5 @@
 -- The code of an axiom has numbers of entities in its signature alone, and stays while these keep their numbers.
-use Rattle.std.proofs.Common.{◌≡◌, ℕ, ◌⊎◌, Bool, true, false, cond, ◌||◌, List, [], ◌∷◌, ◌++◌, Option, None, Some, is_some, IsTrue, nat_eq, sym, subst, ◌∙◌, ap, refl, inl, inr}
-use Rattle.std.specs.List.{flat_map, list_any}
+use Rattle.std.proofs.Common.{◌≡◌, ℕ, ◌⊎◌, true, false, cond, List, [], ◌∷◌, ◌++◌, Option, None, Some, is_some, IsTrue, nat_eq, sym, subst, ◌∙◌, ap, refl, inl, inr}
 use Rattle.std.proofs.lemmas.List.Folds.{list_any-append}
 use Rattle.std.proofs.lemmas.List.Concat.{flat_map-append}
 use Rattle.ad_theory.specs.Numbers.{among}

@@ -1,6 +1,6 @@
 -- The test and the code of an axiom, where this gives entities their numbers. Parts stand in the order in which they are
 -- written, but that what is above stands before what is below it.
-use Rattle.std.specs.Prelude.{ℕ, suc, ◌+◌, Bool, true, List, [], ◌∷◌, ◌++◌, Option, None, Some, nat_eq, length, map}
+use Rattle.std.specs.Prelude.{ℕ, suc, ◌+◌, true, List, [], ◌∷◌, ◌++◌, Option, None, Some, nat_eq, length, map}
 use Rattle.std.specs.List.{flat_map}
 use Rattle.ad_locality.specs.Columns.{builtin, everything}
 use Rattle.ad_locality.specs.Locality.{enumeration}

@@ -60,6 +60,7 @@ pub(crate) fn put_axiom<N: Naming>(subject: &Axiom, names: &N, out: &mut Buffer)
     }
 }
 
+// Puts the codes of two classes.
 fn put_two_classes<N: Naming>(first: &Class, second: &Class, names: &N, out: &mut Buffer)
     ensures { Adds out.old out.new (class_code (N.number_of names.now) first.now ++ class_code (N.number_of names.now) second.now) }
 {
@@ -67,6 +68,7 @@ fn put_two_classes<N: Naming>(first: &Class, second: &Class, names: &N, out: &mu
     put_class(second, names, out);
 }
 
+// Puts a class and the parts of which it is the union.
 fn put_union_and_parts<N: Naming>(class: &Word, parts: &[Class], names: &N, out: &mut Buffer)
     ensures { Adds out.old out.new (name_cell (N.number_of names.now) kinds.Class class.now ∷ flat_map (class_code (N.number_of names.now)) parts.now) }
 {
@@ -74,6 +76,7 @@ fn put_union_and_parts<N: Naming>(class: &Word, parts: &[Class], names: &N, out:
     put_classes(parts, names, out);
 }
 
+// Puts two object properties.
 fn put_two_properties<N: Naming>(first: &ObjProp, second: &ObjProp, names: &N, out: &mut Buffer)
     ensures { Adds out.old out.new (property_cell (N.number_of names.now) first.now ∷ property_cell (N.number_of names.now) second.now ∷ []) }
 {
@@ -81,6 +84,7 @@ fn put_two_properties<N: Naming>(first: &ObjProp, second: &ObjProp, names: &N, o
     put_property(second, names, out);
 }
 
+// Puts object properties, in order.
 fn put_properties<N: Naming>(properties: &[ObjProp], names: &N, out: &mut Buffer)
     ensures { Adds out.old out.new (map (property_cell (N.number_of names.now)) properties.now) }
 {
@@ -89,13 +93,20 @@ fn put_properties<N: Naming>(properties: &[ObjProp], names: &N, out: &mut Buffer
     }
 }
 
-fn put_property_and_chain<N: Naming>(property: &ObjProp, chain: &[ObjProp], names: &N, out: &mut Buffer)
+// Puts an object property and the chain that is below it.
+fn put_property_and_chain<N: Naming>(
+    property: &ObjProp,
+    chain: &[ObjProp],
+    names: &N,
+    out: &mut Buffer,
+)
     ensures { Adds out.old out.new (property_cell (N.number_of names.now) property.now ∷ map (property_cell (N.number_of names.now)) chain.now) }
 {
     put_property(property, names, out);
     put_properties(chain, names, out);
 }
 
+// Puts a class that is above an object property, as its domain or range.
 fn put_class_and_property<N: Naming>(class: &Class, property: &ObjProp, names: &N, out: &mut Buffer)
     ensures { Adds out.old out.new (class_code (N.number_of names.now) class.now ++ property_cell (N.number_of names.now) property.now ∷ []) }
 {
@@ -103,6 +114,7 @@ fn put_class_and_property<N: Naming>(class: &Class, property: &ObjProp, names: &
     put_property(property, names, out);
 }
 
+// Puts two data properties.
 fn put_two_data<N: Naming>(first: &Word, second: &Word, names: &N, out: &mut Buffer)
     ensures { Adds out.old out.new (name_cell (N.number_of names.now) kinds.DataProperty first.now ∷ name_cell (N.number_of names.now) kinds.DataProperty second.now ∷ []) }
 {
@@ -110,6 +122,7 @@ fn put_two_data<N: Naming>(first: &Word, second: &Word, names: &N, out: &mut Buf
     put_name(EntityKind::DataProperty, second, names, out);
 }
 
+// Puts data properties, in order.
 fn put_data<N: Naming>(properties: &[Word], names: &N, out: &mut Buffer)
     ensures { Adds out.old out.new (map (name_cell (N.number_of names.now) kinds.DataProperty) properties.now) }
 {
@@ -118,6 +131,7 @@ fn put_data<N: Naming>(properties: &[Word], names: &N, out: &mut Buffer)
     }
 }
 
+// Puts a class that is above a data property, as its domain.
 fn put_class_and_data<N: Naming>(class: &Class, property: &Word, names: &N, out: &mut Buffer)
     ensures { Adds out.old out.new (class_code (N.number_of names.now) class.now ++ name_cell (N.number_of names.now) kinds.DataProperty property.now ∷ []) }
 {
@@ -125,6 +139,7 @@ fn put_class_and_data<N: Naming>(class: &Class, property: &Word, names: &N, out:
     put_name(EntityKind::DataProperty, property, names, out);
 }
 
+// Puts a data range that is above a data property, as its range.
 fn put_range_and_data<N: Naming>(range: &Range, property: &Word, names: &N, out: &mut Buffer)
     ensures { Adds out.old out.new (range_code (N.number_of names.now) range.now ++ name_cell (N.number_of names.now) kinds.DataProperty property.now ∷ []) }
 {
@@ -132,6 +147,7 @@ fn put_range_and_data<N: Naming>(range: &Range, property: &Word, names: &N, out:
     put_name(EntityKind::DataProperty, property, names, out);
 }
 
+// Puts a datatype and the data range that defines it.
 fn put_datatype_and_range<N: Naming>(datatype: &Word, range: &Range, names: &N, out: &mut Buffer)
     ensures { Adds out.old out.new (name_cell (N.number_of names.now) kinds.Datatype datatype.now ∷ range_code (N.number_of names.now) range.now) }
 {
@@ -139,7 +155,14 @@ fn put_datatype_and_range<N: Naming>(datatype: &Word, range: &Range, names: &N, 
     put_range(range, names, out);
 }
 
-fn put_key<N: Naming>(class: &Class, objects: &[ObjProp], values: &[Word], names: &N, out: &mut Buffer)
+// Puts a class and the properties of its key.
+fn put_key<N: Naming>(
+    class: &Class,
+    objects: &[ObjProp],
+    values: &[Word],
+    names: &N,
+    out: &mut Buffer,
+)
     ensures { Adds out.old out.new (class_code (N.number_of names.now) class.now ++ map (property_cell (N.number_of names.now)) objects.now ++ map (name_cell (N.number_of names.now) kinds.DataProperty) values.now) }
 {
     put_class(class, names, out);

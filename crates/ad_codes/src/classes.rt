@@ -84,7 +84,13 @@ fn put_complement<N: Naming>(operand: &Class, names: &N, out: &mut Buffer)
 
 // Puts an operator with an object property and a filler.
 #[cycle(put_class)]
-fn put_restriction<N: Naming>(operator: Cell, property: &ObjProp, filler: &Class, names: &N, out: &mut Buffer)
+fn put_restriction<N: Naming>(
+    operator: Cell,
+    property: &ObjProp,
+    filler: &Class,
+    names: &N,
+    out: &mut Buffer,
+)
     ensures { Adds out.old out.new (restriction operator (property_cell (N.number_of names.now) property.now) (class_code (N.number_of names.now) filler.now)) }
 {
     put_property(property, names, out);
@@ -94,7 +100,13 @@ fn put_restriction<N: Naming>(operator: Cell, property: &ObjProp, filler: &Class
 
 // Puts a cardinality of an object property.
 #[cycle(put_class)]
-fn put_cardinality<N: Naming>(operator: Cell, property: &ObjProp, filler: &Option<One<Class>>, names: &N, out: &mut Buffer)
+fn put_cardinality<N: Naming>(
+    operator: Cell,
+    property: &ObjProp,
+    filler: &Option<One<Class>>,
+    names: &N,
+    out: &mut Buffer,
+)
     ensures { Adds out.old out.new (restriction operator (property_cell (N.number_of names.now) property.now) (optional_class_code (N.number_of names.now) filler.now)) }
 {
     put_property(property, names, out);
@@ -114,7 +126,13 @@ fn put_optional_class<N: Naming>(filler: &Option<One<Class>>, names: &N, out: &m
 }
 
 // Puts an operator with a data property and a filler.
-fn put_data_restriction<N: Naming>(operator: Cell, property: &Word, filler: &Range, names: &N, out: &mut Buffer)
+fn put_data_restriction<N: Naming>(
+    operator: Cell,
+    property: &Word,
+    filler: &Range,
+    names: &N,
+    out: &mut Buffer,
+)
     ensures { Adds out.old out.new (restriction operator (name_cell (N.number_of names.now) kinds.DataProperty property.now) (range_code (N.number_of names.now) filler.now)) }
 {
     put_name(EntityKind::DataProperty, property, names, out);
@@ -123,7 +141,13 @@ fn put_data_restriction<N: Naming>(operator: Cell, property: &Word, filler: &Ran
 }
 
 // Puts a cardinality of a data property.
-fn put_data_cardinality<N: Naming>(operator: Cell, property: &Word, filler: &Option<Range>, names: &N, out: &mut Buffer)
+fn put_data_cardinality<N: Naming>(
+    operator: Cell,
+    property: &Word,
+    filler: &Option<Range>,
+    names: &N,
+    out: &mut Buffer,
+)
     ensures { Adds out.old out.new (restriction operator (name_cell (N.number_of names.now) kinds.DataProperty property.now) (optional_range_code (N.number_of names.now) filler.now)) }
 {
     put_name(EntityKind::DataProperty, property, names, out);

@@ -50,31 +50,35 @@ pub(crate) fn test_of(subject: &Axiom) -> Option<Test>
     }
 }
 
+// That so many are equivalent.
 fn equivalent(many: usize) -> Option<Test>
     ensures { IfSome result (λ test. test ≡ tests.Equivalent many) }
 {
     Some(Test::Equivalent(u32::try_from(many).ok()?))
 }
 
+// That so many are disjoint.
 fn disjoint(many: usize) -> Option<Test>
     ensures { IfSome result (λ test. test ≡ tests.Disjoint many) }
 {
     Some(Test::Disjoint(u32::try_from(many).ok()?))
 }
 
+// That one is the disjoint union of so many.
 fn disjoint_union(parts: usize) -> Option<Test>
     ensures { IfSome result (λ test. test ≡ tests.DisjointUnion parts) }
 {
     Some(Test::DisjointUnion(u32::try_from(parts).ok()?))
 }
 
+// That a chain of so many is below one.
 fn chain_below(links: usize) -> Option<Test>
     ensures { IfSome result (λ test. test ≡ tests.ChainBelow links) }
 {
     Some(Test::ChainBelow(u32::try_from(links).ok()?))
 }
 
-// A key's class stands before its properties.
+// That the class or one of so many properties of its key is empty.
 fn key(objects: usize, values: usize) -> Option<Test>
     ensures { IfSome result (λ test. test ≡ tests.AnyEmpty (suc (objects + values))) }
 {
