@@ -1,6 +1,6 @@
 -- The test and the code of an axiom, where this gives entities their numbers. Parts stand in the order in which they are
 -- written, but that what is above stands before what is below it.
-use Rattle.std.specs.Prelude.{ℕ, suc, ◌+◌, Bool, true, List, [], ◌∷◌, ◌++◌, Option, None, Some, nat_eq, length, map}
+use Rattle.std.specs.Prelude.{ℕ, suc, ◌+◌, true, List, [], ◌∷◌, ◌++◌, Option, None, Some, nat_eq, length, map}
 use Rattle.std.specs.List.{flat_map}
 use Rattle.ad_locality.specs.Columns.{builtin, everything}
 use Rattle.ad_locality.specs.Locality.{enumeration}
@@ -88,6 +88,10 @@ class_step number (Class-F.DataExact n property filler) = restriction (cells.Exa
 
 unfoldable pub class_code : (Entity → Option ℕ) → Class → List Cell
 class_code number = fold-Class (List Cell) (class_step number)
+
+abbrev pub optional_class_code : (Entity → Option ℕ) → Option Class → List Cell
+optional_class_code number None = cells.Known everything ∷ []
+optional_class_code number (Some class) = class_code number class
 
 -- what the axiom asks of its operands
 abbrev pub test_of : Axiom → Test
