@@ -19,7 +19,7 @@ pub(crate) fn put_axiom<N: Naming>(subject: &Axiom, names: &N, out: &mut Buffer)
     ensures { Adds out.old out.new (code_of (N.number_of names.now) subject.now) }
 {
     match subject {
-        Axiom::SubClassOf(lower, upper) => put_two_classes(upper, lower, names, out),
+        Axiom::SubClassOf(lower, upper) => put_below(lower, upper, names, out),
         Axiom::EquivalentClasses(classes) => put_classes(classes.as_slice(), names, out),
         Axiom::DisjointClasses(classes) => put_classes(classes.as_slice(), names, out),
         Axiom::DisjointUnion(class, parts) => put_union_and_parts(class, parts.as_slice(), names, out),
@@ -60,12 +60,12 @@ pub(crate) fn put_axiom<N: Naming>(subject: &Axiom, names: &N, out: &mut Buffer)
     }
 }
 
-// Puts the codes of two classes.
-fn put_two_classes<N: Naming>(first: &Class, second: &Class, names: &N, out: &mut Buffer)
-    ensures { Adds out.old out.new (class_code (N.number_of names.now) first.now ++ class_code (N.number_of names.now) second.now) }
+// Puts a class behind the one that it is below.
+fn put_below<N: Naming>(lower: &Class, upper: &Class, names: &N, out: &mut Buffer)
+    ensures { Adds out.old out.new (class_code (N.number_of names.now) upper.now ++ class_code (N.number_of names.now) lower.now) }
 {
-    put_class(first, names, out);
-    put_class(second, names, out);
+    put_class(upper, names, out);
+    put_class(lower, names, out);
 }
 
 // Puts a class and the parts of which it is the union.

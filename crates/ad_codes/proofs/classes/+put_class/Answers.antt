@@ -7,7 +7,7 @@ use Rattle.ad_codes.proofs.Putting.{adds_nothing, adds_at, adds_after, adds_coun
 use Rattle.ad_codes.proofs.classes.+put_class.Goals as goal
 
 pub put_class-returns-in-Named : goal.put_class-returns-in-Named
-put_class-returns-in-Named g t c = adds_at (class_code (g.N.Naming.number_of c.args.names.now)) c.in-Named.is (code.class_code-named (g.N.Naming.number_of c.args.names.now) _) (search rules)
+put_class-returns-in-Named g t c = adds_at (class_code (g.N.Naming.number_of c.args.names.now)) c.in-Named.is (code.class_code-named (g.N.Naming.number_of c.args.names.now) _) c.put_name.ensures
 
 pub put_class-returns-in-And : goal.put_class-returns-in-And
 put_class-returns-in-And g t c = adds_at (class_code (g.N.Naming.number_of c.args.names.now)) c.in-And.is (code.class_code-intersection (g.N.Naming.number_of c.args.names.now) _) (search rules)
@@ -28,37 +28,37 @@ pub put_class-returns-in-ObjAll : goal.put_class-returns-in-ObjAll
 put_class-returns-in-ObjAll g t c = adds_at (class_code (g.N.Naming.number_of c.args.names.now)) c.in-ObjAll.is (code.class_code-obj_all (g.N.Naming.number_of c.args.names.now) _ _) (search rules)
 
 pub put_class-returns-in-ObjValue : goal.put_class-returns-in-ObjValue
-put_class-returns-in-ObjValue g t c = adds_at (class_code (g.N.Naming.number_of c.args.names.now)) c.in-ObjValue.is (code.class_code-obj_value (g.N.Naming.number_of c.args.names.now) _ _) (search rules)
+put_class-returns-in-ObjValue g t c = adds_at (class_code (g.N.Naming.number_of c.args.names.now)) c.in-ObjValue.is (code.class_code-obj_value (g.N.Naming.number_of c.args.names.now) _ _) c.put_property.ensures
 
 pub put_class-returns-in-ObjSelf : goal.put_class-returns-in-ObjSelf
-put_class-returns-in-ObjSelf g t c = adds_at (class_code (g.N.Naming.number_of c.args.names.now)) c.in-ObjSelf.is (code.class_code-obj_self (g.N.Naming.number_of c.args.names.now) _) (search rules)
+put_class-returns-in-ObjSelf g t c = adds_at (class_code (g.N.Naming.number_of c.args.names.now)) c.in-ObjSelf.is (code.class_code-obj_self (g.N.Naming.number_of c.args.names.now) _) c.put_property-in-ObjSelf.ensures
 
 pub put_class-returns-in-ObjMin : goal.put_class-returns-in-ObjMin
-put_class-returns-in-ObjMin g t c = adds_at (class_code (g.N.Naming.number_of c.args.names.now)) c.in-ObjMin.is (code.class_code-obj_min (g.N.Naming.number_of c.args.names.now) _ _ _) (search rules)
+put_class-returns-in-ObjMin g t c = adds_at (class_code (g.N.Naming.number_of c.args.names.now)) c.in-ObjMin.is (code.class_code-obj_min (g.N.Naming.number_of c.args.names.now) _ _ _) c.put_cardinality.ensures
 
 pub put_class-returns-in-ObjMax : goal.put_class-returns-in-ObjMax
-put_class-returns-in-ObjMax g t c = adds_at (class_code (g.N.Naming.number_of c.args.names.now)) c.in-ObjMax.is (code.class_code-obj_max (g.N.Naming.number_of c.args.names.now) _ _ _) (search rules)
+put_class-returns-in-ObjMax g t c = adds_at (class_code (g.N.Naming.number_of c.args.names.now)) c.in-ObjMax.is (code.class_code-obj_max (g.N.Naming.number_of c.args.names.now) _ _ _) c.put_cardinality-in-ObjMax.ensures
 
 pub put_class-returns-in-ObjExact : goal.put_class-returns-in-ObjExact
-put_class-returns-in-ObjExact g t c = adds_at (class_code (g.N.Naming.number_of c.args.names.now)) c.in-ObjExact.is (code.class_code-obj_exact (g.N.Naming.number_of c.args.names.now) _ _ _) (search rules)
+put_class-returns-in-ObjExact g t c = adds_at (class_code (g.N.Naming.number_of c.args.names.now)) c.in-ObjExact.is (code.class_code-obj_exact (g.N.Naming.number_of c.args.names.now) _ _ _) c.put_cardinality-in-ObjExact.ensures
 
 pub put_class-returns-in-DataSome : goal.put_class-returns-in-DataSome
-put_class-returns-in-DataSome g t c = adds_at (class_code (g.N.Naming.number_of c.args.names.now)) c.in-DataSome.is (code.class_code-data_some (g.N.Naming.number_of c.args.names.now) _ _) (search rules)
+put_class-returns-in-DataSome g t c = adds_at (class_code (g.N.Naming.number_of c.args.names.now)) c.in-DataSome.is (code.class_code-data_some (g.N.Naming.number_of c.args.names.now) _ _) c.put_data_restriction.ensures
 
 pub put_class-returns-in-DataAll : goal.put_class-returns-in-DataAll
-put_class-returns-in-DataAll g t c = adds_at (class_code (g.N.Naming.number_of c.args.names.now)) c.in-DataAll.is (code.class_code-data_all (g.N.Naming.number_of c.args.names.now) _ _) (search rules)
+put_class-returns-in-DataAll g t c = adds_at (class_code (g.N.Naming.number_of c.args.names.now)) c.in-DataAll.is (code.class_code-data_all (g.N.Naming.number_of c.args.names.now) _ _) c.put_data_restriction-in-DataAll.ensures
 
 pub put_class-returns-in-DataValue : goal.put_class-returns-in-DataValue
-put_class-returns-in-DataValue g t c = adds_at (class_code (g.N.Naming.number_of c.args.names.now)) c.in-DataValue.is (code.class_code-data_value (g.N.Naming.number_of c.args.names.now) _ _) (search rules)
+put_class-returns-in-DataValue g t c = adds_at (class_code (g.N.Naming.number_of c.args.names.now)) c.in-DataValue.is (code.class_code-data_value (g.N.Naming.number_of c.args.names.now) _ _) c.put_name-in-DataValue.ensures
 
 pub put_class-returns-in-DataMin : goal.put_class-returns-in-DataMin
-put_class-returns-in-DataMin g t c = adds_at (class_code (g.N.Naming.number_of c.args.names.now)) c.in-DataMin.is (code.class_code-data_min (g.N.Naming.number_of c.args.names.now) _ _ _) (search rules)
+put_class-returns-in-DataMin g t c = adds_at (class_code (g.N.Naming.number_of c.args.names.now)) c.in-DataMin.is (code.class_code-data_min (g.N.Naming.number_of c.args.names.now) _ _ _) c.put_data_cardinality.ensures
 
 pub put_class-returns-in-DataMax : goal.put_class-returns-in-DataMax
-put_class-returns-in-DataMax g t c = adds_at (class_code (g.N.Naming.number_of c.args.names.now)) c.in-DataMax.is (code.class_code-data_max (g.N.Naming.number_of c.args.names.now) _ _ _) (search rules)
+put_class-returns-in-DataMax g t c = adds_at (class_code (g.N.Naming.number_of c.args.names.now)) c.in-DataMax.is (code.class_code-data_max (g.N.Naming.number_of c.args.names.now) _ _ _) c.put_data_cardinality-in-DataMax.ensures
 
 pub put_class-returns-in-DataExact : goal.put_class-returns-in-DataExact
-put_class-returns-in-DataExact g t c = adds_at (class_code (g.N.Naming.number_of c.args.names.now)) c.in-DataExact.is (code.class_code-data_exact (g.N.Naming.number_of c.args.names.now) _ _ _) (search rules)
+put_class-returns-in-DataExact g t c = adds_at (class_code (g.N.Naming.number_of c.args.names.now)) c.in-DataExact.is (code.class_code-data_exact (g.N.Naming.number_of c.args.names.now) _ _ _) c.put_data_cardinality-in-DataExact.ensures
 
 pub put_classes-operands-init : goal.put_classes-operands-init
 put_classes-operands-init g t c = adds_nothing c.args.out.now
