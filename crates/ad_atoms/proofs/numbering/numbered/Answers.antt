@@ -1,13 +1,16 @@
 -- The axioms that were gone through have their atoms.
-use Rattle.std.proofs.Common.{◌+◌, ◌<◌, [], ◌∷◌, ◌++◌, is_some, length, get_or, take, sym, ◌∙◌, ap, arith}
+use Rattle.std.proofs.Common.{◌+◌, ◌<◌, [], ◌∷◌, ◌++◌, is_some, cond, Some, None, length, get_or, take, sym, ◌∙◌, ap, arith}
 use Rattle.std.proofs.lemmas.List.{take_more, take_all, length-take}
 use Rattle.std.proofs.lemmas.List.Elements.{Contains-get_or}
 use Rattle.ad_tables.specs.Rows.{Numbered}
 use Rattle.ad_decomposition.specs.Tables.{is_in_row_of}
+use Rattle.ad_bits.specs.Rows.{has}
+use Rattle.ad_atoms.specs.Numbering.{is_mutual}
+use Rattle.ad_atoms.proofs.Counts.{sum_same}
 use Rattle.ad_atoms.proofs.RowLemmas.{row_size, is_in_has, entry_free}
 use Rattle.ad_atoms.proofs.Steps.{with_tautology, with_first, atoms_as, all_done, length-firsts, tautologies-le, tautology_done, member_done, size_is, first_done}
-use Rattle.ad_atoms.proofs.numbering.atoms.Goals as goal
-use Rattle.ad_atoms.proofs.numbering.atoms.Goals.{then-not-has, else-not-has+then-is_none+in_ok-push+in_ok-push-2, else-not-has+else-is_none}
+use Rattle.ad_atoms.proofs.numbering.numbered.Goals as goal
+use Rattle.ad_atoms.proofs.numbering.numbered.Goals.{then-not-has, else-not-has+then-is_none+in_ok-push+in_ok-push-2, else-not-has+else-is_none}
 
 pub row_at-requires : goal.row_at-requires
 row_at-requires c =
@@ -31,18 +34,13 @@ overflow_cast-atom c =
     let few = length-firsts (is_in_row_of c.args.rows.now c.args.kind) c.args.order.now _ _ c.loop-slot.invariant.numbered in
     omega (arith, few, length-take c.loop-slot.slot-index c.args.order.now, c.requires.few, c.len-atom.ensures)
 
-pub gather-size-requires-clause-first : goal.gather-size-requires-clause-first
-gather-size-requires-clause-first c =
-    let a = get_or c.args.order.now c.loop-slot.slot-index 0 in
-    let r = c.requires.rows.rows a (Contains-get_or c.args.order.now c.loop-slot.slot-index 0 c.loop-slot-test.true) in
-    (r.0, r.1, r.2 ∙ sym c.loop-slot.invariant.long)
+pub find_same-requires-clause-listed : goal.find_same-requires-clause-listed
+find_same-requires-clause-listed c = (c.args.order.now, Contains-get_or c.args.order.now c.loop-slot.slot-index 0 c.loop-slot-test.true, c.requires.rows, c.requires.nested)
 
-pub gather-size-requires-clause-members : goal.gather-size-requires-clause-members
-gather-size-requires-clause-members c b h =
+pub find_same-requires-clause-own : goal.find_same-requires-clause-own
+find_same-requires-clause-own c =
     let a = get_or c.args.order.now c.loop-slot.slot-index 0 in
-    let listed = Contains-get_or c.args.order.now c.loop-slot.slot-index 0 c.loop-slot-test.true in
-    let r = c.requires.rows.rows b (c.requires.nested.within a b listed h) in
-    (r.0, r.1, r.2 ∙ sym c.loop-slot.invariant.long)
+    is_in_has c.args.rows.now c.args.kind a c.row_at.result.now c.row_at.ensures a ∙ sym c.has.ensures ∙ c.if-not-has.false
 
 pub loop-slot-preserved : goal.loop-slot-preserved
 loop-slot-preserved c =
@@ -64,16 +62,22 @@ loop-slot-preserved c =
         | else-not-has+then-is_none+in_ok-push+in_ok-push-2 w ↦ ap (λ v. length v.items) w.atom_of-is ∙ w.gather-size.ensures.long ∙ c.loop-slot.invariant.long
         | else-not-has+else-is_none w ↦ ap (λ v. length v.items) w.atom_of-is ∙ c.loop-slot.invariant.long
       ];
+      room = elim c.if-not-has.branch [
+        | then-not-has w ↦ ap length w.members-is ∙ c.loop-slot.invariant.room
+        | else-not-has+then-is_none+in_ok-push+in_ok-push-2 w ↦ ap length w.members-is ∙ w.find_same.ensures.size ∙ c.loop-slot.invariant.room
+        | else-not-has+else-is_none w ↦ ap length w.members-is ∙ c.loop-slot.invariant.room
+      ];
       numbered = elim c.if-not-has.branch [
         | then-not-has w ↦ atoms_as G order (done ++ a ∷ []) (take (i + 1) order) (with_tautology before) after more (ap (λ v. v.items) w.firsts-is) (ap (λ v. v.items) w.sizes-is) w.tautologies-is (ap (λ v. v.items) w.atom_of-is)
             (tautology_done G order done before a old (own ∙ w.if-not-has.true))
         | else-not-has+then-is_none+in_ok-push+in_ok-push-2 w ↦ (
             let t = own ∙ w.if-not-has.false in
             let free = entry_free c.loop-slot.atom_of.items a w.index.result.now w.is_none.result w.index.ensures small w.is_none.ensures ∙ w.if-is_none.true in
-            let size = w.gather-size.ensures.size ∙ size_is G order c.requires.nested done before a old listed t free (length c.loop-slot.atom_of.items) c.requires.distinct (λ b k. omega (arith, c.requires.rows.below b k, c.loop-slot.invariant.long)) in
+            let same = w.find_same.ensures.same in
+            let size = w.gather-size.ensures.size ∙ sum_same (has w.find_same.new.members) (is_mutual G a) (λ _. 1) (length c.loop-slot.atom_of.items) same ∙ size_is G order c.requires.nested done before a old listed t free (length c.loop-slot.atom_of.items) c.requires.distinct (λ b k. omega (arith, c.requires.rows.below b k, c.loop-slot.invariant.long)) in
             atoms_as G order (done ++ a ∷ []) (take (i + 1) order) (with_first before w.gather-size.new.atom_of.items a w.gather-size.result) after more
             (ap (λ v. v.items) w.firsts-is ∙ w.in_ok-push.ensures.items) (ap (λ v. v.items) w.sizes-is ∙ w.in_ok-push-2.ensures.items) w.tautologies-is (ap (λ v. v.items) w.atom_of-is)
-            (first_done G order c.requires.nested done before a old listed t free w.gather-size.new.atom_of.items w.gather-size.result w.len-atom.result (omega (arith, w.len-atom.ensures)) w.gather-size.ensures.entries size)
+            (first_done G order c.requires.nested done before a old listed t free w.gather-size.new.atom_of.items w.gather-size.result w.len-atom.result (omega (arith, w.len-atom.ensures)) (λ b. w.gather-size.ensures.entries b ∙ ap (λ t. cond t (Some w.len-atom.result) (get_or c.loop-slot.atom_of.items b None)) (same b)) size)
             )
         | else-not-has+else-is_none w ↦ atoms_as G order (done ++ a ∷ []) (take (i + 1) order) before after more (ap (λ v. v.items) w.firsts-is) (ap (λ v. v.items) w.sizes-is) w.tautologies-is (ap (λ v. v.items) w.atom_of-is)
             (member_done G order done before a old listed (own ∙ w.if-not-has.false) (entry_free c.loop-slot.atom_of.items a w.index.result.now w.is_none.result w.index.ensures small w.is_none.ensures ∙ w.if-is_none.false))
