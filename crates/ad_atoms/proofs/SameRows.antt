@@ -2,41 +2,30 @@
 use Rattle.std.proofs.Common.{◌≡◌, ℕ, Bool, List, Some, None, length, slice_index, IsTrue, inl, inr, sym, ◌∙◌, ap, subst, arith}
 use Rattle.std.specs.Cmp.{both_ways}
 use Rattle.std.specs.List.{Contains}
-use Rattle.std.proofs.lemmas.List.{get_or-map}
 use Rattle.ad_base.specs.declared.limits.Kind.{Kind}
-use Rattle.ad_bits.specs.Rows.{has, member_count, IsSubset}
+use Rattle.ad_bits.specs.Rows.{has}
 use Rattle.ad_bits.proofs.Rows.{member_count-subset, member_count-outside}
 use Rattle.ad_tables.specs.Rows.{Tables, of_kind, row_of}
 use Rattle.ad_theory.proofs.Members.{either, and_intro, and_left, and_right}
 use Rattle.ad_decomposition.specs.Tables.{AreNested, HaveRows, is_in_row_of}
-use Rattle.ad_sizes.specs.Sizes.{size_of, sizes_of, AreLargest}
+use Rattle.ad_sizes.specs.Sizes.{sizes_of, AreLargest}
 use Rattle.ad_atoms.specs.Numbering.{is_mutual}
-use Rattle.ad_atoms.proofs.RowLemmas.{is_in_has}
+use Rattle.ad_sizes.proofs.NestedRows.{size_at, has_in, subset}
 
 module _ (tables : Tables) (kind : Kind) (order : List ℕ) (have : HaveRows tables kind (length (of_kind tables kind)) order) (nest : AreNested (is_in_row_of tables kind) order) where
-  size_at : (b : ℕ) → (o : Contains order b) → slice_index (sizes_of tables kind) b ≡ member_count (have.rows b o).0
-  size_at b o = get_or-map size_of (of_kind tables kind) b None 0 (have.below b o) ∙ ap size_of (have.rows b o).1
-
-  has_in : (b k : ℕ) → (o : Contains order b) → is_in_row_of tables kind b k ≡ has (have.rows b o).0 k
-  has_in b k o = is_in_has tables kind b (have.rows b o).0 (have.rows b o).1 k
-
-  -- the row of what is in the module of b lies in that of b
-  subset : (b k : ℕ) → (o : Contains order b) → (q : Contains order k) → IsTrue (is_in_row_of tables kind b k) → IsSubset (have.rows k q).0 (have.rows b o).0
-  subset b k o q t i s = sym (has_in b i o) ∙ nest.nested b k i o t (has_in k i q ∙ s)
-
   module _ (a : ℕ) (o : Contains order a) (t : IsTrue (is_in_row_of tables kind a a)) (left : List Bool) (largest : AreLargest (slice_index (sizes_of tables kind)) (have.rows a o).0 left) where
     largest_mutual : (b : ℕ) → IsTrue (has left b) → IsTrue (is_mutual (is_in_row_of tables kind) a b)
     largest_mutual b s =
         let G : ℕ → ℕ → Bool = is_in_row_of tables kind in
         let h = (largest.largest b).0 s in
-        let m : IsTrue (G a b) = has_in a b o ∙ h.0 in
+        let m : IsTrue (G a b) = has_in tables kind order have nest a b o ∙ h.0 in
         let q = nest.within a b o m in
-        let own = sym (has_in a a o) ∙ t in
-        and_intro (G a b) (G b a) m (has_in b a q ∙ elim (either (has (have.rows b q).0 a)) [
+        let own = sym (has_in tables kind order have nest a a o) ∙ t in
+        and_intro (G a b) (G b a) m (has_in tables kind order have nest b a q ∙ elim (either (has (have.rows b q).0 a)) [
           | inl u ↦ u
           | inr f ↦ (
-              let less = member_count-outside (have.rows b q).0 (have.rows a o).0 a (subset a b o q m) f own in
-              absurd (omega (arith, h.1 a own, size_at a o, size_at b q))
+              let less = member_count-outside (have.rows b q).0 (have.rows a o).0 a (subset tables kind order have nest a b o q m) f own in
+              absurd (omega (arith, h.1 a own, size_at tables kind order have nest a o, size_at tables kind order have nest b q))
               )
         ])
 
@@ -47,12 +36,12 @@ module _ (tables : Tables) (kind : Kind) (order : List ℕ) (have : HaveRows tab
         let up = and_right (G a b) (G b a) m in
         let q = nest.within a b o down in
         (largest.largest b).1 (
-          sym (has_in a b o) ∙ down,
+          sym (has_in tables kind order have nest a b o) ∙ down,
           λ k s.
-              let inside : IsTrue (G a k) = has_in a k o ∙ s in
+              let inside : IsTrue (G a k) = has_in tables kind order have nest a k o ∙ s in
               let p = nest.within a k o inside in
-              let less = member_count-subset (have.rows k p).0 (have.rows b q).0 (subset b k q p (nest.nested b a k q up inside)) in
-              omega (arith, size_at k p, size_at b q),
+              let less = member_count-subset tables kind order have nest (have.rows k p).0 (have.rows b q).0 (subset tables kind order have nest b k q p (nest.nested b a k q up inside)) in
+              omega (arith, size_at tables kind order have nest k p, size_at tables kind order have nest b q),
         )
 
   pub largest_are_same : (a : ℕ) → Contains order a → IsTrue (is_in_row_of tables kind a a) → (row left : List Bool) → row_of tables kind a ≡ Some row →
