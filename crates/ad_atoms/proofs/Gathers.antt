@@ -17,9 +17,6 @@ pub record IsGathered (test : ℕ → Bool) (before : List (Option ℕ)) (atom f
   pub long : length after ≡ length before
   pub entries : (b : ℕ) → get_or after b None ≡ entry_of test before atom from b
 
-pub gathered_as : (test : ℕ → Bool) (before : List (Option ℕ)) (atom from m n : ℕ) (xs ys : List (Option ℕ)) → m ≡ n → ys ≡ xs → IsGathered test before atom from n xs → IsGathered test before atom from m ys
-gathered_as test before atom from m n xs ys e e' g = record { counted = e ∙ g.counted; long = ap length e' ∙ g.long; entries = λ b. ap (λ zs. get_or zs b None) e' ∙ g.entries b }
-
 module _ (test : ℕ → Bool) where
   -- numbers that do not pass add nothing
   sum_gap : (from b : ℕ) → from ≤ b → ((k : ℕ) → from ≤ k → k < b → IsFalse (test k)) → sum_where test (λ _. 1) b ≡ sum_where test (λ _. 1) from
@@ -77,16 +74,6 @@ module _ (test : ℕ → Bool) where
               let below : ltb b (b + 1) ≡ true = grind (arith, nat_tests) in
               let passes : test b ≡ true = t in
               rw (e, passes, below) (get_or-set_same after b (Some atom) None small)
-
-      pub one_passed : (from size b : ℕ) (after : List (Option ℕ)) → IsGathered test before atom from size after → IsLeastFrom row from b → IsFalse (test b) → IsGathered test before atom (b + 1) size after
-      one_passed from size b after g least o = record {
-        counted = (let e = sum_to from b least in let f : test b ≡ false = o in let e' : sum_where test (λ _. 1) (b + 1) ≡ 0 + sum_where test (λ _. 1) from = rw f at e in omega (arith, g.counted));
-        long = g.long;
-        entries = λ k. elim (cases_eq k b) [
-          | inl e ↦ g.entries k ∙ entry_same before atom from (b + 1) k (λ t. absurd (not_both t (rw e o)))
-          | inr n ↦ g.entries k ∙ other from b k least n
-        ];
-      }
 
       -- with no member left
       pub all_counted : (from size : ℕ) (after : List (Option ℕ)) → IsGathered test before atom from size after → from ≤ length before → HasNoneFrom row from → size ≡ sum_where test (λ _. 1) (length before)

@@ -3,3 +3,4 @@ pub mod Gathers
 pub mod Places
 pub mod Counts
 pub mod Steps
+pub mod SameRows

@@ -5,10 +5,9 @@ use Rattle.ad_base.specs.declared.limits.Kind.{Kind}
 use Rattle.ad_bits.specs.Rows.{has}
 use Rattle.ad_tables.specs.Rows.{Tables, row_of}
 use Rattle.ad_decomposition.specs.Tables.{is_in, is_in_row_of}
-use Rattle.ad_atoms.specs.Numbering.{HasRow}
 
 module _ (tables : Tables) (kind : Kind) (slot : ℕ) (row : List Bool) (is : row_of tables kind slot ≡ Some row) where
-  pub row_size : (size : ℕ) → HasRow tables kind size slot → length row ≡ size
+  pub row_size : (size : ℕ) → ((other : List Bool) × (row_of tables kind slot ≡ Some other) × (length other ≡ size)) → length row ≡ size
   row_size size (other, is', long) = let same : Some row ≡ Some other = sym is ∙ is' in let same' : row ≡ other = cc in ap length same' ∙ long
 
   pub is_in_has : (k : ℕ) → is_in_row_of tables kind slot k ≡ has row k

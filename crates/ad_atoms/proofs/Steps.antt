@@ -12,9 +12,9 @@ use Rattle.ad_decomposition.specs.Atoms.{AreAtoms, firsts_among, same_module, in
 use Rattle.ad_decomposition.specs.Tables.{AreNested}
 use Rattle.ad_decomposition.proofs.Firsts.{firsts_has, firsts-push, has_place, position_same, length-filter-le, length-firsts-le}
 use Rattle.ad_decomposition.proofs.Depends.{same_equivalence, same_intro, same_down, same_up, depends_member, member_depends}
-use Rattle.ad_atoms.specs.Numbering.{AreAtomsOf, is_mutual, joins, done_in_atoms, done_firsts}
+use Rattle.ad_atoms.specs.Numbering.{AreAtomsOf, is_mutual, done_in_atoms, done_firsts}
 use Rattle.ad_atoms.proofs.Places.{position-push_some, position-push_none}
-use Rattle.ad_atoms.proofs.Counts.{counted, sum_same}
+use Rattle.ad_atoms.proofs.Counts.{counted}
 
 -- one more tautology
 abbrev pub with_tautology : Numbered → Numbered
@@ -151,54 +151,48 @@ module _ (G : ℕ → ℕ → Bool) (order : List ℕ) where
           let place : position (same_module G order a) (done_firsts G order done) ≡ position (same_module G order b) (done_firsts G order done) = position_same (same_module G order) (same_equivalence G order) (done_firsts G order done) a b (same_is_mutual a b o p t s ∙ m) in
           ap is_none (h.of_axioms b p ∙ own_entry G b (position (same_module G order b) (done_firsts G order done)) s ∙ sym place ∙ no_place)
 
-      joins_mutual : (b : ℕ) → joins G atoms.atom_of a b ≡ is_mutual G a b
-      joins_mutual b = both_ways (joins G atoms.atom_of a b) (is_mutual G a b)
-          (λ j. and_left (is_mutual G a b) (is_none (get_or atoms.atom_of b None)) j)
-          (λ m. and_intro (is_mutual G a b) (is_none (get_or atoms.atom_of b None)) m (same_free b m))
-
       filter_mutual : filter (same_module G order a) (in_atoms G order) ≡ filter (is_mutual G a) order
       filter_mutual =
           let agree : (b : ℕ) → Has (in_atoms G order) b → same_module G order a b ≡ is_mutual G a b = λ b k. (let r = filter_has (λ c. G c c) order b k in same_is_mutual a b o (contains_of_has order b r.0) t r.1) in
           filter_same (same_module G order a) (is_mutual G a) (in_atoms G order) (λ b k e. sym (agree b k) ∙ e) (λ b k e. agree b k ∙ e)
           ∙ filter-filter (is_mutual G a) (λ b. G b b) order (λ b m. mutual_own a b o m)
 
-      -- its atom has as many axioms as join it
-      pub size_is : (slots : ℕ) → IsDistinct nat_eq order → ((b : ℕ) → Contains order b → b < slots) → sum_where (joins G atoms.atom_of a) (λ _. 1) slots ≡ size_of G order a
+      -- its atom has as many axioms as are in its module and it in theirs
+      pub size_is : (slots : ℕ) → IsDistinct nat_eq order → ((b : ℕ) → Contains order b → b < slots) → sum_where (is_mutual G a) (λ _. 1) slots ≡ size_of G order a
       size_is slots distinct small =
-          sum_same (joins G atoms.atom_of a) (is_mutual G a) (λ _. 1) slots joins_mutual
-          ∙ counted (is_mutual G a) order distinct (λ b m. has_of_contains order b (mutual_listed a b o m)) slots (λ b k. small b (contains_of_has order b k))
+          counted (is_mutual G a) order distinct (λ b m. has_of_contains order b (mutual_listed a b o m)) slots (λ b k. small b (contains_of_has order b k))
           ∙ sym (ap length filter_mutual)
 
       old_entry : (b : ℕ) → Contains order b → IsTrue (G b b) → (p : Option ℕ) → position (same_module G order b) (done_firsts G order done) ≡ p → get_or atoms.atom_of b None ≡ p
       old_entry b q s p e = h.of_axioms b q ∙ own_entry G b (position (same_module G order b) (done_firsts G order done)) s ∙ e
 
-      new_place : (b : ℕ) → Contains order b → IsTrue (G b b) → (p : Option ℕ) → position (same_module G order b) (done_firsts G order done) ≡ p → cond (joins G atoms.atom_of a b) (Some (length atoms.firsts)) (get_or atoms.atom_of b None) ≡ position (same_module G order b) (done_firsts G order done ++ a ∷ [])
+      new_place : (b : ℕ) → Contains order b → IsTrue (G b b) → (p : Option ℕ) → position (same_module G order b) (done_firsts G order done) ≡ p → cond (is_mutual G a b) (Some (length atoms.firsts)) (get_or atoms.atom_of b None) ≡ position (same_module G order b) (done_firsts G order done ++ a ∷ [])
       new_place b q s (Some j) e =
           let old : get_or atoms.atom_of b None ≡ Some j = old_entry b q s (Some j) e in
-          let out : joins G atoms.atom_of a b ≡ false = (elim (either (joins G atoms.atom_of a b)) [ inr f ↦ f | inl k ↦ absurd (not_both (and_right (is_mutual G a b) (is_none (get_or atoms.atom_of b None)) k) (ap is_none old)) ]) in
+          let out : is_mutual G a b ≡ false = (elim (either (is_mutual G a b)) [ inr f ↦ f | inl m ↦ absurd (not_both (same_free b m) (ap is_none old)) ]) in
           ap (λ c. cond c (Some (length atoms.firsts)) (get_or atoms.atom_of b None)) out ∙ old ∙ sym (position-push_some (same_module G order b) (done_firsts G order done) a j e)
       new_place b q s None e =
           let old : get_or atoms.atom_of b None ≡ None = old_entry b q s None e in
-          let test : joins G atoms.atom_of a b ≡ same_module G order b a = joins_mutual b ∙ sym (same_is_mutual a b o q t s) ∙ (same_equivalence G order).symm a b in
+          let test : is_mutual G a b ≡ same_module G order b a = sym (same_is_mutual a b o q t s) ∙ (same_equivalence G order).symm a b in
           ap (λ c. cond c (Some (length atoms.firsts)) (get_or atoms.atom_of b None)) test
           ∙ ap (λ x. cond (same_module G order b a) (Some (length atoms.firsts)) x) old
           ∙ ap (λ fs. cond (same_module G order b a) (Some (length fs)) None) h.firsts_are
           ∙ sym (position-push_none (same_module G order b) (done_firsts G order done) a e)
 
-      not_joined : (b : ℕ) → (IsTrue (is_mutual G a b) → ⊥) → cond (joins G atoms.atom_of a b) (Some (length atoms.firsts)) (get_or atoms.atom_of b None) ≡ get_or atoms.atom_of b None
+      not_joined : (b : ℕ) → (IsTrue (is_mutual G a b) → ⊥) → cond (is_mutual G a b) (Some (length atoms.firsts)) (get_or atoms.atom_of b None) ≡ get_or atoms.atom_of b None
       not_joined b n =
-          let out : joins G atoms.atom_of a b ≡ false = (elim (either (joins G atoms.atom_of a b)) [ inr f ↦ f | inl k ↦ absurd (n (and_left (is_mutual G a b) (is_none (get_or atoms.atom_of b None)) k)) ]) in
+          let out : is_mutual G a b ≡ false = (elim (either (is_mutual G a b)) [ inr f ↦ f | inl m ↦ absurd (n m) ]) in
           ap (λ c. cond c (Some (length atoms.firsts)) (get_or atoms.atom_of b None)) out
 
-      new_entry : (b : ℕ) → Contains order b → cond (joins G atoms.atom_of a b) (Some (length atoms.firsts)) (get_or atoms.atom_of b None) ≡ cond (G b b) (position (same_module G order b) (done_firsts G order (done ++ a ∷ []))) None
+      new_entry : (b : ℕ) → Contains order b → cond (is_mutual G a b) (Some (length atoms.firsts)) (get_or atoms.atom_of b None) ≡ cond (G b b) (position (same_module G order b) (done_firsts G order (done ++ a ∷ []))) None
       new_entry b q = elim (either (G b b)) [
         | inl s ↦ new_place b q s (position (same_module G order b) (done_firsts G order done)) refl ∙ sym (ap (position (same_module G order b)) new_firsts) ∙ sym (own_entry G b (position (same_module G order b) (done_firsts G order (done ++ a ∷ []))) s)
         | inr f ↦ not_joined b (λ m. not_both (mutual_own a b o m) f) ∙ h.of_axioms b q ∙ no_entry G b (position (same_module G order b) (done_firsts G order done)) f ∙ sym (no_entry G b (position (same_module G order b) (done_firsts G order (done ++ a ∷ []))) f)
       ]
 
-      pub first_done : (entries : List (Option ℕ)) (size atom : ℕ) → atom ≡ length atoms.firsts → ((b : ℕ) → get_or entries b None ≡ cond (joins G atoms.atom_of a b) (Some atom) (get_or atoms.atom_of b None)) → size ≡ size_of G order a → AreAtomsOf G order (done ++ a ∷ []) (with_first atoms entries a size)
+      pub first_done : (entries : List (Option ℕ)) (size atom : ℕ) → atom ≡ length atoms.firsts → ((b : ℕ) → get_or entries b None ≡ cond (is_mutual G a b) (Some atom) (get_or atoms.atom_of b None)) → size ≡ size_of G order a → AreAtomsOf G order (done ++ a ∷ []) (with_first atoms entries a size)
       first_done entries size atom number given is =
-          let are : (b : ℕ) → get_or entries b None ≡ cond (joins G atoms.atom_of a b) (Some (length atoms.firsts)) (get_or atoms.atom_of b None) = λ b. given b ∙ ap (λ n. cond (joins G atoms.atom_of a b) (Some n) (get_or atoms.atom_of b None)) number in
+          let are : (b : ℕ) → get_or entries b None ≡ cond (is_mutual G a b) (Some (length atoms.firsts)) (get_or atoms.atom_of b None) = λ b. given b ∙ ap (λ n. cond (is_mutual G a b) (Some n) (get_or atoms.atom_of b None)) number in
           record {
             firsts_are = ap (λ fs. fs ++ a ∷ []) h.firsts_are ∙ sym new_firsts;
             sizes_are = ap (λ ss. ss ++ size ∷ []) h.sizes_are ∙ ap (λ n. map (size_of G order) (done_firsts G order done) ++ n ∷ []) is ∙ sym (map_push (size_of G order) (done_firsts G order done) a) ∙ sym (ap (map (size_of G order)) new_firsts);

@@ -1,22 +1,19 @@
 -- Numbering the atoms while the ontology's axioms are gone through in order. G says which axioms are in the genuine
 -- module of an axiom (G a b: b is in that of a).
-use Rattle.std.specs.Prelude.{◌≡◌, ℕ, ◌&&◌, not, Bool, List, Option, Some, None, is_none, length, map, if◌then◌else◌, slice_index_or}
+use Rattle.std.specs.Prelude.{◌≡◌, ℕ, ◌&&◌, not, Bool, List, None, length, map, if◌then◌else◌, slice_index_or}
 use Rattle.std.specs.List.{Contains, filter, position}
 use Rattle.ad_base.specs.declared.limits.Kind.{Kind}
-use Rattle.ad_tables.specs.Rows.{Tables, Numbered, row_of}
+use Rattle.ad_tables.specs.Rows.{Tables, Numbered, of_kind}
 use Rattle.ad_decomposition.specs.Atoms.{firsts_among, same_module, size_of}
-
--- the slot has a row over so many slots
-abbrev pub HasRow : Tables → Kind → ℕ → ℕ → Type 0
-HasRow tables kind size slot = (row : List Bool) × (row_of tables kind slot ≡ Some row) × (length row ≡ size)
+use Rattle.ad_decomposition.specs.Tables.{AreNested, HaveRows, is_in_row_of}
 
 -- each is in the module of the other
 abbrev pub is_mutual : (ℕ → ℕ → Bool) → ℕ → ℕ → Bool
 is_mutual G a b = G a b && G b a
 
--- b is to be put into the atom of a: it has none yet, and each is in the module of the other
-abbrev pub joins : (ℕ → ℕ → Bool) → List (Option ℕ) → ℕ → ℕ → Bool
-joins G entries a b = is_mutual G a b && is_none (slice_index_or entries b None)
+-- the slot stands in some order of axioms with rows, which nest
+abbrev pub IsListed : Tables → Kind → ℕ → Type 0
+IsListed tables kind slot = (order : List ℕ) × Contains order slot × HaveRows tables kind (length (of_kind tables kind)) order × AreNested (is_in_row_of tables kind) order
 
 -- the axioms of atoms among those gone through
 abbrev pub done_in_atoms : (ℕ → ℕ → Bool) → List ℕ → List ℕ

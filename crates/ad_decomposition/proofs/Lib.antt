@@ -2,3 +2,4 @@ pub mod Firsts
 pub mod Depends
 pub mod Classes
 pub mod Nests
+pub mod Genuine

@@ -5,11 +5,12 @@ use Rattle.ad_base.specs.declared.limits.Kind.{Kind}
 use Rattle.ad_base.specs.declared.limits.Side.{Side}
 use Rattle.ad_bits.specs.Rows.{has}
 use Rattle.ad_theory.specs.Genuine.{IsGenuine}
-use Rattle.ad_tables.specs.Rows.{Tables, row_of}
+use Rattle.ad_tables.specs.Rows.{Tables, of_kind, row_of}
 
 -- the tables hold, for each kind, the genuine module of each live axiom as a row over so many slots, and nothing else
 pub record AreGenuine (symbols : ℕ → List ℕ) (local : Side → (ℕ → Bool) → ℕ → Bool) (live : ℕ → Bool) (slots : ℕ) (tables : Tables) : Type 0 where
   pub rows : (kind : Kind) (i : ℕ) → IsTrue (live i) → (row : List Bool) × (row_of tables kind i ≡ Some row) × (length row ≡ slots) × IsGenuine kind symbols local live i (has row)
+  pub long : (kind : Kind) → length (of_kind tables kind) ≡ slots
   pub no_others : (kind : Kind) (i : ℕ) → IsFalse (live i) → row_of tables kind i ≡ None
 
 -- whether the axiom k is in the row of the axiom i

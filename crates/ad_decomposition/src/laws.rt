@@ -1,9 +1,9 @@
 ghost use Rattle.std.specs.Prelude.{◌≡◌, ◌↔◌, ◌<◌, ℕ, Bool, List, Some, None, length, slice_index_or, IsTrue, IsFalse};
 ghost use Rattle.std.specs.List.{Contains};
 ghost use Rattle.ad_base.specs.declared.limits.Kind.{Kind};
-ghost use Rattle.ad_tables.specs.Rows.{Tables};
+ghost use Rattle.ad_tables.specs.Rows.{Tables, of_kind};
 ghost use Rattle.ad_decomposition.specs.Atoms.{atom_of, firsts, covers, depends, depends_strictly};
-ghost use Rattle.ad_decomposition.specs.Tables.{AreGenuine, AreNested, is_in_row_of};
+ghost use Rattle.ad_decomposition.specs.Tables.{AreGenuine, AreNested, HaveRows, is_in_row_of};
 
 use ad_theory::Universe;
 
@@ -13,6 +13,21 @@ pub fn rows_nest<U: Universe>()
         AreGenuine (U.symbols_of u) (U.is_local u) (U.is_live u) (U.slot_count u) tables →
         ((i : ℕ) → Contains order i ↔ IsTrue (U.is_live u i)) →
         AreNested (is_in_row_of tables kind) order }
+{}
+
+/// Each live axiom of an ontology, listed in its order, is a slot with a row over all slots.
+pub fn live_have_rows<U: Universe>()
+    ensures { (u : U) (tables : Tables) (kind : Kind) (order : List ℕ) →
+        AreGenuine (U.symbols_of u) (U.is_local u) (U.is_live u) (U.slot_count u) tables →
+        ((i : ℕ) → Contains order i ↔ IsTrue (U.is_live u i)) →
+        HaveRows tables kind (length (of_kind tables kind)) order }
+{}
+
+/// There is one table of genuine modules.
+pub fn tables_are_one<U: Universe>()
+    ensures { (u : U) (one other : Tables) →
+        AreGenuine (U.symbols_of u) (U.is_local u) (U.is_live u) (U.slot_count u) one →
+        AreGenuine (U.symbols_of u) (U.is_local u) (U.is_live u) (U.slot_count u) other → one ≡ other }
 {}
 
 /// Atoms are the classes of axioms with equal genuine modules, tautologies left out; each is numbered by its first axiom.

@@ -2,6 +2,9 @@
 //! that does nothing.
 #![tactic(auto)]
 
-pub use laws::{atoms_are_classes, covers_are_between, nested_depends, rows_nest};
+pub use laws::{
+    atoms_are_classes, covers_are_between, live_have_rows, nested_depends, rows_nest,
+    tables_are_one,
+};
 
 mod laws;

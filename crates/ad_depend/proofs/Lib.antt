@@ -1,4 +1,4 @@
 pub mod RowLemmas
-pub mod ReductionLemmas
+pub mod WalkLemmas
 pub mod NumberingLemmas
 pub mod CoverLemmas

@@ -1,55 +1,25 @@
--- The atoms in which the members of a first axiom's row stand are those on which its atom depends.
-use Rattle.std.proofs.Common.{◌≡◌, ◌≢◌, ℕ, ◌+◌, ◌<◌, ◌↔◌, ◌⊎◌, Bool, List, Option, Some, None, length, get_or, slice_index, slice_index_or, IsTrue, inl, inr, sym, ◌∙◌, ap, subst, arith}
-use Rattle.std.specs.Cmp.{both_ways}
+-- The first slots of atoms, and the rows of those on which an atom depends.
+use Rattle.std.proofs.Common.{◌≡◌, ◌≢◌, ◌↔◌, ℕ, ◌<◌, Bool, List, Some, None, length, get_or, slice_index, slice_index_or, IsTrue, IsFalse, inl, inr, sym, ◌∙◌, ap, subst, arith}
 use Rattle.std.specs.List.{Contains}
-use Rattle.std.proofs.lemmas.Bool.{cases_lt}
 use Rattle.std.proofs.lemmas.List.{get_or_default}
-use Rattle.std.proofs.lemmas.List.Quantifiers.{position-Some}
 use Rattle.ad_base.specs.declared.limits.Kind.{Kind}
-use Rattle.ad_bits.specs.Rows.{has, IsLeastFrom}
-use Rattle.ad_tables.specs.Rows.{Tables, Numbered, row_of}
-use Rattle.ad_theory.proofs.Members.{either, not_both, has_get_or}
+use Rattle.ad_bits.specs.Rows.{has}
+use Rattle.ad_bits.proofs.Rows.{member_count-outside}
+use Rattle.ad_tables.specs.Rows.{Tables, Numbered, of_kind, row_of}
+use Rattle.ad_theory.proofs.Members.{either, Has, has_get_or, contains_of_has}
 use Rattle.ad_decomposition.specs.Atoms.{atom_of, depends, depends_strictly, firsts, same_module}
-use Rattle.ad_decomposition.specs.Tables.{AreNested, is_in, is_in_row_of}
-use Rattle.ad_decomposition.proofs.Classes.{first_has, atom_of_own, atom_of_tautology, atom_of_first}
-use Rattle.ad_decomposition.proofs.Depends.{depends_itself, depends_trans, depends_member, member_depends, same_equivalence, same_intro, same_down, strictly_intro, strictly_down, strictly_not_up}
+use Rattle.ad_decomposition.specs.Tables.{AreNested, is_in_row_of}
+use Rattle.ad_decomposition.proofs.Classes.{first_has, atom_of_own, atom_of_first}
+use Rattle.ad_decomposition.proofs.Depends.{depends_itself, depends_member, member_depends, same_equivalence, same_intro, strictly_intro, strictly_down, strictly_not_up}
 use Rattle.ad_decomposition.proofs.Firsts.{position_same}
-use Rattle.ad_depend.specs.Numbering.{AreAtomsOfOrder, HasDependencies, StandsIn}
-
--- the row has the atoms, other than `but`, in which the members below `from` stand
-abbrev pub HasAtomsBelow : List Bool → List (Option ℕ) → ℕ → ℕ → List Bool → Type 0
-HasAtomsBelow members atom_of but from row = (j : ℕ) → IsTrue (has row j) ↔ ((j ≢ but)
-    × ((s : ℕ) × (s < from) × IsTrue (has members s) × (slice_index_or atom_of s None ≡ Some j)))
-
-pub stands_more : (members : List Bool) (atom_of : List (Option ℕ)) (but from next : ℕ) (row new : List Bool) (atom : Option ℕ) →
-    HasAtomsBelow members atom_of but from row → IsLeastFrom members from next → atom ≡ slice_index_or atom_of next None →
-    ((j : ℕ) → IsTrue (has new j) ↔ (IsTrue (has row j) ⊎ ((j ≢ but) × (atom ≡ Some j)))) → HasAtomsBelow members atom_of but (next + 1) new
-stands_more members atom_of but from next row new atom before least read adds j = (
-  λ t. elim ((adds j).0 t) [
-    | inl old ↦ (let h = (before j).0 old in (h.0, (h.1.0, omega (arith, h.1.1, least.at_or_above), h.1.2, h.1.3)))
-    | inr here ↦ (here.0, (next, omega arith, least.member, sym read ∙ here.1))
-  ],
-  λ h.
-      let s = h.1.0 in
-      (adds j).1 (elim (cases_lt s from) [
-        | inl below ↦ inl ((before j).1 (h.0, (s, below, h.1.2, h.1.3)))
-        | inr above ↦ elim (cases_lt s next) [
-          | inl between ↦ absurd (not_both h.1.2 (least.none_between s above between))
-          | inr at ↦ (let same : s ≡ next = omega (arith, h.1.1) in inr (h.0, read ∙ ap (λ k. slice_index_or atom_of k None) (sym same) ∙ h.1.3))
-        ]
-      ]),
-)
+use Rattle.ad_sizes.specs.Sizes.{sizes_of}
+use Rattle.ad_sizes.proofs.NestedRows.{size_at, has_in, subset}
+use Rattle.ad_depend.specs.Numbering.{AreAtomsOfOrder, HasBelow, IsFirst}
+use Rattle.ad_depend.proofs.WalkLemmas.{AreRanked}
 
 module _ (G : ℕ → ℕ → Bool) (order : List ℕ) where
   pub first_in : (k d : ℕ) → k < length (firsts G order) → Contains order (get_or (firsts G order) k d) × IsTrue (G (get_or (firsts G order) k d) (get_or (firsts G order) k d))
   first_in k d l = first_has G order (get_or (firsts G order) k d) (has_get_or (firsts G order) k d l)
-
-  -- an axiom in an atom is the same as the atom's first
-  pub atom_same : (s j d : ℕ) → atom_of G order s ≡ Some j → (j < length (firsts G order)) × IsTrue (same_module G order s (get_or (firsts G order) j d))
-  atom_same s j d e = elim (either (G s s)) [
-    | inl t ↦ (let p = position-Some (same_module G order s) (firsts G order) j d (sym (atom_of_own G order s t) ∙ e) in (p.0, p.1))
-    | inr f ↦ (let q : Some j ≡ None = sym e ∙ atom_of_tautology G order s f in absurd (cc))
-  ]
 
   -- the firsts of two atoms are not the same
   pub firsts_apart : (i j d : ℕ) → i < length (firsts G order) → j < length (firsts G order) → IsTrue (same_module G order (get_or (firsts G order) i d) (get_or (firsts G order) j d)) → i ≡ j
@@ -61,31 +31,34 @@ module _ (G : ℕ → ℕ → Bool) (order : List ℕ) where
       let r : Some i ≡ Some j = sym p ∙ position_same (same_module G order) (same_equivalence G order) (firsts G order) a b t ∙ q in
       cc
 
-  module _ (nest : AreNested G order) (i j d : ℕ) (k : i < length (firsts G order)) (l : j < length (firsts G order)) where
-    member_to_depends : (s : ℕ) → j ≢ i → IsTrue (G (get_or (firsts G order) i d) s) → atom_of G order s ≡ Some j →
-        IsTrue (depends_strictly G order (get_or (firsts G order) i d) (get_or (firsts G order) j d))
-    member_to_depends s other member stands =
-        let a : ℕ = get_or (firsts G order) i d in
-        let b : ℕ = get_or (firsts G order) j d in
-        let same = (atom_same s j d stands).1 in
-        let down = depends_trans G order a s b (member_depends G order nest a s (first_in i d k).0 member) (same_down G order s b same) in
-        strictly_intro G order a b down (λ up. other (sym (firsts_apart i j d k l (same_intro G order a b down up))))
+  -- a first is one at a place
+  pub place_of : (d c : ℕ) → Has (firsts G order) c → (k : ℕ) × (k < length (firsts G order)) × (get_or (firsts G order) k d ≡ c)
+  place_of d c h = let p = contains_of_has (firsts G order) c h in (p.0, p.1, get_or_default (firsts G order) p.0 d c p.1 ∙ p.2)
 
-    depends_to_member : IsTrue (depends_strictly G order (get_or (firsts G order) i d) (get_or (firsts G order) j d)) →
-        (j ≢ i) × IsTrue (G (get_or (firsts G order) i d) (get_or (firsts G order) j d))
-    depends_to_member t =
-        let a : ℕ = get_or (firsts G order) i d in
-        let b : ℕ = get_or (firsts G order) j d in
-        let o = first_in j d l in (
-          λ e. strictly_not_up G order a b t (subst (λ n. IsTrue (depends G order (get_or (firsts G order) n d) a)) (sym e) (depends_itself G order a)),
-          depends_member G order nest a b o.0 o.1 (strictly_down G order a b t),
-        )
+  pub same_first : (a b : ℕ) → Has (firsts G order) a → Has (firsts G order) b → IsTrue (same_module G order a b) → a ≡ b
+  same_first a b h k t =
+      let p = place_of 0 a h in
+      let q = place_of 0 b k in
+      let same : p.0 ≡ q.0 = firsts_apart p.0 q.0 0 p.1 q.1 (subst (λ x. IsTrue (same_module G order x (get_or (firsts G order) q.0 0))) (sym p.2) (subst (λ y. IsTrue (same_module G order a y)) (sym q.2) t)) in
+      sym p.2 ∙ ap (λ n. get_or (firsts G order) n 0) same ∙ q.2
+
+  -- of two firsts one depends strictly on the other where that is another one in its module
+  pub first_strict : AreNested G order → (a b : ℕ) → Has (firsts G order) a → Has (firsts G order) b → IsTrue (depends_strictly G order a b) ↔ ((b ≢ a) × IsTrue (G a b))
+  first_strict nest a b h k =
+      let o = first_has G order a h in
+      let q = first_has G order b k in (
+        λ t. (
+          λ e. strictly_not_up G order a b t (subst (λ x. IsTrue (depends G order x a)) (sym e) (depends_itself G order a)),
+          depends_member G order nest a b q.0 q.1 (strictly_down G order a b t),
+        ),
+        λ m. let down = member_depends G order nest a b o.0 m.1 in strictly_intro G order a b down (λ up. m.0 (sym (same_first a b h k (same_intro G order a b down up)))),
+      )
 
 module _ (tables : Tables) (kind : Kind) (order : List ℕ) (atoms : Numbered) (are : AreAtomsOfOrder tables kind order atoms) where
-  first_at : (i d : ℕ) → i < length atoms.firsts → slice_index atoms.firsts i ≡ get_or (firsts (is_in_row_of tables kind) order) i d
+  pub first_at : (i d : ℕ) → i < length atoms.firsts → slice_index atoms.firsts i ≡ get_or (firsts (is_in_row_of tables kind) order) i d
   first_at i d l = get_or_default atoms.firsts i 0 d l ∙ ap (λ xs. get_or xs i d) are.numbered.firsts_are
 
-  count_at : length atoms.firsts ≡ length (firsts (is_in_row_of tables kind) order)
+  pub count_at : length atoms.firsts ≡ length (firsts (is_in_row_of tables kind) order)
   count_at = ap length are.numbered.firsts_are
 
   pub first_listed : (i : ℕ) → i < length atoms.firsts → Contains order (slice_index atoms.firsts i)
@@ -95,26 +68,62 @@ module _ (tables : Tables) (kind : Kind) (order : List ℕ) (atoms : Numbered) (
   pub first_has_row : (i : ℕ) → i < length atoms.firsts → row_of tables kind (slice_index atoms.firsts i) ≡ None → ⊥
   first_has_row i l none = let r = are.rows.rows (slice_index atoms.firsts i) (first_listed i l) in let e : Some r.0 ≡ None = sym r.1 ∙ none in cc
 
-  module _ (i : ℕ) (k : i < length atoms.firsts) (members : List Bool) (row_is : row_of tables kind (slice_index atoms.firsts i) ≡ Some members) where
-    member_is : (d s : ℕ) → is_in_row_of tables kind (get_or (firsts (is_in_row_of tables kind) order) i d) s ≡ has members s
-    member_is d s = ap (λ f. is_in_row_of tables kind f s) (sym (first_at i d k)) ∙ ap (λ r. is_in r s) row_is
+  -- the firsts of atoms are those that are listed
+  pub first_is : (s : ℕ) → IsFirst atoms.firsts s → Has (firsts (is_in_row_of tables kind) order) s
+  first_is s h = subst (Has (firsts (is_in_row_of tables kind) order)) (sym (first_at h.0 0 h.1) ∙ h.2) (has_get_or (firsts (is_in_row_of tables kind) order) h.0 0 (omega (arith, count_at)))
 
-    stands : (s : ℕ) → IsTrue (has members s) → slice_index_or atoms.atom_of s None ≡ atom_of (is_in_row_of tables kind) order s
-    stands s t = are.numbered.of_axioms s
-        (are.nested.within (slice_index atoms.firsts i) s (first_listed i k) (ap (λ r. is_in r s) row_is ∙ t))
+  pub is_first : (s : ℕ) → Has (firsts (is_in_row_of tables kind) order) s → IsFirst atoms.firsts s
+  is_first s h = let p = place_of (is_in_row_of tables kind) order 0 s h in let l : p.0 < length atoms.firsts = omega (arith, count_at) in (p.0, l, first_at p.0 0 l ∙ p.2)
 
-    pub has_dependencies : (row : List Bool) → ((j : ℕ) → IsTrue (has row j) ↔ StandsIn members atoms.atom_of i j) → HasDependencies (is_in_row_of tables kind) order i row
-    has_dependencies row is j d l =
+  pub first_below : (k : ℕ) → k < length atoms.firsts → slice_index atoms.firsts k < length (of_kind tables kind)
+  first_below k l = are.rows.below (slice_index atoms.firsts k) (first_listed k l)
+
+  -- the atom of a first is that which it begins
+  pub atom_at : (j : ℕ) → j < length atoms.firsts → slice_index_or atoms.atom_of (slice_index atoms.firsts j) None ≡ Some j
+  atom_at j l =
+      let G : ℕ → ℕ → Bool = is_in_row_of tables kind in
+      are.numbered.of_axioms (slice_index atoms.firsts j) (first_listed j l) ∙ ap (atom_of G order) (first_at j 0 l) ∙ atom_of_first G order j 0 (omega (arith, count_at))
+
+  pub atom_of_first_is : (s : ℕ) → (h : IsFirst atoms.firsts s) → slice_index_or atoms.atom_of s None ≡ Some h.0
+  atom_of_first_is s h = ap (λ k. slice_index_or atoms.atom_of k None) (sym h.2) ∙ atom_at h.0 h.1
+
+  pub first_row : (s : ℕ) → IsFirst atoms.firsts s → (row : List Bool) × (row_of tables kind s ≡ Some row) × (length row ≡ length (of_kind tables kind))
+  first_row s h = are.rows.rows s (first_has (is_in_row_of tables kind) order s (first_is s h)).0
+
+  pub only_one : (i j : ℕ) → i < length atoms.firsts → j < length atoms.firsts → slice_index atoms.firsts j ≡ slice_index atoms.firsts i → j ≡ i
+  only_one i j k l e = let same : Some j ≡ Some i = sym (atom_at j l) ∙ ap (λ s. slice_index_or atoms.atom_of s None) e ∙ atom_at i k in cc
+
+  module _ (a : ℕ) (h : Has (firsts (is_in_row_of tables kind) order) a) (start : List Bool) (below : HasBelow (is_in_row_of tables kind) atoms.firsts a start) where
+    pub start_first : (s : ℕ) → IsTrue (has start s) → Has (firsts (is_in_row_of tables kind) order) s
+    start_first s t = first_is s ((below s).0 t).0
+
+    -- the members of what is below are ranked by the sizes of their rows
+    pub ranked : AreRanked (is_in_row_of tables kind) (slice_index (sizes_of tables kind)) start
+    ranked =
         let G : ℕ → ℕ → Bool = is_in_row_of tables kind in
-        let a : ℕ = get_or (firsts G order) i d in
-        let b : ℕ = get_or (firsts G order) j d in
-        let within : i < length (firsts G order) = omega (arith, count_at) in
-        both_ways (has row j) (depends_strictly G order a b)
-        (λ t.
-        let h = (is j).0 t in
-        let s = h.1.0 in
-        member_to_depends G order are.nested i j d within l s h.0 (member_is d s ∙ h.1.1) (sym (stands s h.1.1) ∙ h.1.2))
-        (λ t.
-        let h = depends_to_member G order are.nested i j d within l t in
-        let member : IsTrue (has members b) = sym (member_is d b) ∙ h.1 in
-        (is j).1 (h.0, (b, member, stands b member ∙ atom_of_first G order j d l)))
+        record {
+          own = λ s t. (first_has G order s (start_first s t)).1;
+          nested = λ s b c t g u. are.nested.nested s b c (first_has G order s (start_first s t)).0 g u;
+          smaller = λ x y s t g n.
+              let hx = start_first x s in
+              let hy = start_first y t in
+              let ox = first_has G order x hx in
+              let oy = first_has G order y hy in
+              let strict = (first_strict G order are.nested x y hx hy).1 (λ e. n (sym e), g) in
+              let out : IsFalse (G y x) = (elim (either (G y x)) [
+                | inr f ↦ f
+                | inl up ↦ absurd (strictly_not_up G order x y strict (member_depends G order are.nested y x oy.0 up))
+              ]) in
+              let less = member_count-outside (are.rows.rows y oy.0).0 (are.rows.rows x ox.0).0 x (subset tables kind order are.rows are.nested x y ox.0 oy.0 g)
+              (sym (has_in tables kind order are.rows are.nested y x oy.0) ∙ out) (sym (has_in tables kind order are.rows are.nested x x ox.0) ∙ ox.1) in
+              omega (arith, size_at tables kind order are.rows are.nested x ox.0, size_at tables kind order are.rows are.nested y oy.0);
+        }
+
+    -- what is below is what is depended on
+    pub below_strict : (b : ℕ) → Has (firsts (is_in_row_of tables kind) order) b → IsTrue (has start b) ↔ IsTrue (depends_strictly (is_in_row_of tables kind) order a b)
+    below_strict b k =
+        let G : ℕ → ℕ → Bool = is_in_row_of tables kind in
+        let s = first_strict G order are.nested a b h k in (
+          λ t. let m = (below b).0 t in s.1 (m.1, m.2),
+          λ t. let m = s.0 t in (below b).1 (is_first b k, m.0, m.1),
+        )

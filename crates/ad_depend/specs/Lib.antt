@@ -1,3 +1,2 @@
 pub mod Covered
-pub mod Reduction
 pub mod Numbering

@@ -4,7 +4,7 @@
 pub use found::Covers;
 pub use search::covers;
 
-mod depends;
+mod below;
 mod found;
-mod reduction;
+mod largest;
 mod search;

@@ -6,7 +6,7 @@ use Rattle.ad_base.specs.declared.limits.Side.{Side}
 use Rattle.ad_bits.specs.Rows.{has}
 use Rattle.ad_theory.specs.Genuine.{IsGenuine}
 use Rattle.ad_theory.specs.Numbers.{among, IsNumberedModule}
-use Rattle.ad_tables.specs.Rows.{Tables, row_of}
+use Rattle.ad_tables.specs.Rows.{Tables, of_kind, row_of}
 use Rattle.ad_theory.proofs.Members.{either}
 use Rattle.ad_decomposition.specs.Tables.{AreGenuine}
 use Rattle.ad_genuine.specs.declared.found.Found.{Found}
@@ -36,8 +36,9 @@ module _ (symbols : ℕ → List ℕ) (local : Side → (ℕ → Bool) → ℕ �
       | inr f ↦ (let clash : None ≡ Some g = sym (are.of_others i f) ∙ e in cc)
     ]
 
-    pub tables_genuine : (tables : Tables) → ((kind : Kind) (i : ℕ) → row_of tables kind i ≡ option_map (λ g. get_or (rows_of_kind found kind) g []) (get_or groups i None)) → AreGenuine symbols local live slots tables
-    tables_genuine tables are_rows = record {
+    pub tables_genuine : (tables : Tables) → ((kind : Kind) → length (of_kind tables kind) ≡ slots) → ((kind : Kind) (i : ℕ) → row_of tables kind i ≡ option_map (λ g. get_or (rows_of_kind found kind) g []) (get_or groups i None)) → AreGenuine symbols local live slots tables
+    tables_genuine tables long are_rows = record {
+      long = long;
       rows = λ kind i t.
           let r = are.of_live i (below i t) t in
           let row = get_or (rows_of_kind found kind) r.0 [] in

@@ -32,7 +32,8 @@ fn put_group(rows: &mut Rows, slot: u32, group: Option<u32>, found: &Found) -> R
 pub(crate) fn rows_for(alloc: Global, groups: &[Option<u32>], found: &Found) -> Result<Rows, Memory>
     requires few { length groups.now < 2 ^ 32 }
     requires groups { (kind : Kind) (i g : ℕ) → slice_index_or groups.now i None ≡ Some g → g < length (rows_of_kind found.now kind) }
-    ensures { IfOk result (λ rows. (kind : Kind) (i : ℕ) →
+    ensures size { IfOk result (λ rows. (kind : Kind) → length (of_kind rows kind) ≡ length groups.now) }
+    ensures rows { IfOk result (λ rows. (kind : Kind) (i : ℕ) →
         row_of rows kind i ≡ option_map (λ g. slice_index_or (rows_of_kind found.now kind) g []) (slice_index_or groups.now i None)) }
 {
     let mut rows = Rows::new(alloc, groups.len() as u32)?;
