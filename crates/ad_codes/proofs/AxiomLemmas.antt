@@ -27,17 +27,18 @@ any_empty-map g [] = refl
 any_empty-map g (x ∷ xs) = ap (λ z. (g x).empty || z) (any_empty-map g xs)
 
 module _ (side : Side) (seen : ℕ → Bool) (number : Entity → Option ℕ) where
-  abbrev here : Entity → Bool
-  here = seen_by side seen number
+  -- whether an entity is seen
+  abbrev member : Entity → Bool
+  member = seen_by side seen number
 
   abbrev class_is : Class → Surely
-  class_is = class_surely side here
+  class_is = class_surely side member
 
   abbrev property_is : ObjProp → Surely
-  property_is = property_surely side here
+  property_is = property_surely side member
 
   abbrev data_is : List ℕ → Surely
-  data_is = name_surely side here kinds.DataProperty
+  data_is = name_surely side member kinds.DataProperty
 
   puts_property : (p : ObjProp) → Puts side seen (property_cell number p ∷ []) (property_is p)
   puts_property p = puts-cell side seen (property_cell number p) (property_is p) (puts-property side seen number p)
@@ -78,9 +79,9 @@ module _ (side : Side) (seen : ℕ → Bool) (number : Entity → Option ℕ) wh
       ∙ passes-chain (property_is super) (map property_is chain) [] (length chain) (length-map chain property_is)
       ∙ ap (λ z. z || (property_is super).whole) (any_empty-map property_is chain)
 
-  disjoint_union : (class : List ℕ) (parts : List Class) → is_local_code side seen (tests.DisjointUnion (length parts)) (name_cell number kinds.Class class ∷ flat_map (class_code number) parts) ≡ local side here (axioms.DisjointUnion class parts)
+  disjoint_union : (class : List ℕ) (parts : List Class) → is_local_code side seen (tests.DisjointUnion (length parts)) (name_cell number kinds.Class class ∷ flat_map (class_code number) parts) ≡ local side member (axioms.DisjointUnion class parts)
   disjoint_union class parts =
-      let whole = name_surely side here kinds.Class class in
+      let whole = name_surely side member kinds.Class class in
       ap (passes (tests.DisjointUnion (length parts))) (puts-first side seen (name_cell number kinds.Class class) whole (flat_map (class_code number) parts) [] (puts-name side seen number kinds.Class class) ∙ run_classes parts (whole ∷ []))
       ∙ passes-disjoint_union whole (map class_is parts) [] (length parts) (length-map parts class_is)
 
@@ -104,29 +105,29 @@ module _ (side : Side) (seen : ℕ → Bool) (number : Entity → Option ℕ) wh
       let g : length (map data_is values) ≡ length values = length-map values data_is in
       ap suc (e ∙ ap (λ z. z + length (map data_is values)) f ∙ ap (λ z. length objects + z) g)
 
-  key_empty : (class : Class) (objects : List ObjProp) (values : List (List ℕ)) → list_any (λ c. c.empty) (key_operands class objects values) ≡ local side here (axioms.HasKey class objects values)
+  key_empty : (class : Class) (objects : List ObjProp) (values : List (List ℕ)) → list_any (λ c. c.empty) (key_operands class objects values) ≡ local side member (axioms.HasKey class objects values)
   unfolding key_operands
   key_empty class objects values =
       ap (λ z. (class_is class).empty || z) (list_any-append (λ c. c.empty) (map property_is objects) (map data_is values)
       ∙ ap (λ z. z || list_any (λ c. c.empty) (map data_is values)) (any_empty-map property_is objects)
       ∙ ap (λ z. list_any (λ r. (property_is r).empty) objects || z) (any_empty-map data_is values))
 
-  key : (class : Class) (objects : List ObjProp) (values : List (List ℕ)) → is_local_code side seen (tests.AnyEmpty (suc (length objects + length values))) (code_of number (axioms.HasKey class objects values)) ≡ local side here (axioms.HasKey class objects values)
+  key : (class : Class) (objects : List ObjProp) (values : List (List ℕ)) → is_local_code side seen (tests.AnyEmpty (suc (length objects + length values))) (code_of number (axioms.HasKey class objects values)) ≡ local side member (axioms.HasKey class objects values)
   key class objects values =
       ap (passes (tests.AnyEmpty (suc (length objects + length values)))) (run_key class objects values)
       ∙ passes-any_empty (key_operands class objects values) [] (suc (length objects + length values)) (key_length class objects values)
       ∙ key_empty class objects values
 
-  disjoint_classes : (xs : List Class) → is_local_code side seen (tests.Disjoint (length xs)) (flat_map (class_code number) xs) ≡ local side here (axioms.DisjointClasses xs)
+  disjoint_classes : (xs : List Class) → is_local_code side seen (tests.Disjoint (length xs)) (flat_map (class_code number) xs) ≡ local side member (axioms.DisjointClasses xs)
   disjoint_classes xs = ap (passes (tests.Disjoint (length xs))) (run_classes xs []) ∙ passes-disjoint (map class_is xs) [] (length xs) (length-map xs class_is)
 
-  disjoint_properties : (xs : List ObjProp) → is_local_code side seen (tests.Disjoint (length xs)) (map (property_cell number) xs) ≡ local side here (axioms.DisjointObjectProperties xs)
+  disjoint_properties : (xs : List ObjProp) → is_local_code side seen (tests.Disjoint (length xs)) (map (property_cell number) xs) ≡ local side member (axioms.DisjointObjectProperties xs)
   disjoint_properties xs = ap (passes (tests.Disjoint (length xs))) (run_properties xs []) ∙ passes-disjoint (map property_is xs) [] (length xs) (length-map xs property_is)
 
-  disjoint_data : (xs : List (List ℕ)) → is_local_code side seen (tests.Disjoint (length xs)) (map (name_cell number kinds.DataProperty) xs) ≡ local side here (axioms.DisjointDataProperties xs)
+  disjoint_data : (xs : List (List ℕ)) → is_local_code side seen (tests.Disjoint (length xs)) (map (name_cell number kinds.DataProperty) xs) ≡ local side member (axioms.DisjointDataProperties xs)
   disjoint_data xs = ap (passes (tests.Disjoint (length xs))) (run_data xs []) ∙ passes-disjoint (map data_is xs) [] (length xs) (length-map xs data_is)
 
-  pub code_local : (a : Axiom) → is_local_code side seen (test_of a) (code_of number a) ≡ local side here a
+  pub code_local : (a : Axiom) → is_local_code side seen (test_of a) (code_of number a) ≡ local side member a
   code_local (axioms.SubClassOf sub super) = of_two tests.Below (class_code number super) (class_code number sub) (class_is super) (class_is sub) (class_puts side seen number super) (class_puts side seen number sub)
   code_local (axioms.EquivalentClasses xs) = equivalent class_is xs (flat_map (class_code number) xs) (run_classes xs [])
   code_local (axioms.DisjointClasses xs) = disjoint_classes xs
@@ -149,9 +150,9 @@ module _ (side : Side) (seen : ℕ → Bool) (number : Entity → Option ℕ) wh
   code_local (axioms.EquivalentDataProperties xs) = equivalent data_is xs (map (name_cell number kinds.DataProperty) xs) (run_data xs [])
   code_local (axioms.DisjointDataProperties xs) = disjoint_data xs
   code_local (axioms.DataPropertyDomain property class) = of_two tests.Below (class_code number class) (name_cell number kinds.DataProperty property ∷ []) (class_is class) (data_is property) (class_puts side seen number class) (puts_data property)
-  code_local (axioms.DataPropertyRange property range) = of_two tests.Below (range_code number range) (name_cell number kinds.DataProperty property ∷ []) (range_surely side here range) (data_is property) (range_puts side seen number range) (puts_data property)
+  code_local (axioms.DataPropertyRange property range) = of_two tests.Below (range_code number range) (name_cell number kinds.DataProperty property ∷ []) (range_surely side member range) (data_is property) (range_puts side seen number range) (puts_data property)
   code_local (axioms.FunctionalDataProperty p) = of_one tests.Empty (name_cell number kinds.DataProperty p ∷ []) (data_is p) (puts_data p)
-  code_local (axioms.DatatypeDefinition datatype range) = both (name_cell number kinds.Datatype datatype ∷ []) (range_code number range) (name_surely side here kinds.Datatype datatype) (range_surely side here range) (puts-cell side seen (name_cell number kinds.Datatype datatype) (name_surely side here kinds.Datatype datatype) (puts-name side seen number kinds.Datatype datatype)) (range_puts side seen number range)
+  code_local (axioms.DatatypeDefinition datatype range) = both (name_cell number kinds.Datatype datatype ∷ []) (range_code number range) (name_surely side member kinds.Datatype datatype) (range_surely side member range) (puts-cell side seen (name_cell number kinds.Datatype datatype) (name_surely side member kinds.Datatype datatype) (puts-name side seen number kinds.Datatype datatype)) (range_puts side seen number range)
   code_local (axioms.HasKey class objects values) = key class objects values
   code_local (axioms.SameIndividual individuals) = refl
   code_local (axioms.DifferentIndividuals individuals) = refl

@@ -12,7 +12,7 @@ use ad_base::Word;
 use ad_entity::{EntityKind, Naming};
 use ad_tree::{Axiom, Class, ObjProp, Range};
 
-// Puts the operands of an axiom: one form a line.
+// Puts the operands of an axiom.
 #[tactic(auto, using(crate::proofs::Putting::adds_nothing))]
 #[rattlefmt::skip]
 pub(crate) fn put_axiom<N: Naming>(subject: &Axiom, names: &N, out: &mut Buffer)
@@ -20,43 +20,39 @@ pub(crate) fn put_axiom<N: Naming>(subject: &Axiom, names: &N, out: &mut Buffer)
 {
     match subject {
         Axiom::SubClassOf(lower, upper) => put_below(lower, upper, names, out),
-        Axiom::EquivalentClasses(classes) => put_classes(classes.as_slice(), names, out),
-        Axiom::DisjointClasses(classes) => put_classes(classes.as_slice(), names, out),
+        Axiom::EquivalentClasses(classes) | Axiom::DisjointClasses(classes) => put_classes(classes.as_slice(), names, out),
         Axiom::DisjointUnion(class, parts) => put_union_and_parts(class, parts.as_slice(), names, out),
         Axiom::SubObjectPropertyOf(lower, upper) => put_two_properties(upper, lower, names, out),
         Axiom::SubObjectPropertyChainOf(chain, upper) => put_property_and_chain(upper, chain.as_slice(), names, out),
-        Axiom::EquivalentObjectProperties(properties) => put_properties(properties.as_slice(), names, out),
-        Axiom::DisjointObjectProperties(properties) => put_properties(properties.as_slice(), names, out),
+        Axiom::EquivalentObjectProperties(properties) | Axiom::DisjointObjectProperties(properties) => put_properties(properties.as_slice(), names, out),
         Axiom::InverseObjectProperties(first, second) => put_two_properties(first, second, names, out),
-        Axiom::ObjectPropertyDomain(property, class) => put_class_and_property(class, property, names, out),
-        Axiom::ObjectPropertyRange(property, class) => put_class_and_property(class, property, names, out),
-        Axiom::FunctionalObjectProperty(property) => put_property(property, names, out),
-        Axiom::InverseFunctionalObjectProperty(property) => put_property(property, names, out),
-        Axiom::ReflexiveObjectProperty(property) => put_property(property, names, out),
-        Axiom::IrreflexiveObjectProperty(property) => put_property(property, names, out),
-        Axiom::SymmetricObjectProperty(property) => put_property(property, names, out),
-        Axiom::AsymmetricObjectProperty(property) => put_property(property, names, out),
-        Axiom::TransitiveObjectProperty(property) => put_property(property, names, out),
+        Axiom::ObjectPropertyDomain(property, class) | Axiom::ObjectPropertyRange(property, class) => put_class_and_property(class, property, names, out),
+        Axiom::FunctionalObjectProperty(property)
+        | Axiom::InverseFunctionalObjectProperty(property)
+        | Axiom::ReflexiveObjectProperty(property)
+        | Axiom::IrreflexiveObjectProperty(property)
+        | Axiom::SymmetricObjectProperty(property)
+        | Axiom::AsymmetricObjectProperty(property)
+        | Axiom::TransitiveObjectProperty(property)
+        | Axiom::ObjectPropertyAssertion(property, _, _)
+        | Axiom::NegativeObjectPropertyAssertion(property, _, _) => put_property(property, names, out),
         Axiom::SubDataPropertyOf(lower, upper) => put_two_data(upper, lower, names, out),
-        Axiom::EquivalentDataProperties(properties) => put_data(properties.as_slice(), names, out),
-        Axiom::DisjointDataProperties(properties) => put_data(properties.as_slice(), names, out),
+        Axiom::EquivalentDataProperties(properties) | Axiom::DisjointDataProperties(properties) => put_data(properties.as_slice(), names, out),
         Axiom::DataPropertyDomain(property, class) => put_class_and_data(class, property, names, out),
         Axiom::DataPropertyRange(property, range) => put_range_and_data(range, property, names, out),
-        Axiom::FunctionalDataProperty(property) => put_name(EntityKind::DataProperty, property, names, out),
+        Axiom::FunctionalDataProperty(property)
+        | Axiom::DataPropertyAssertion(property, _, _)
+        | Axiom::NegativeDataPropertyAssertion(property, _, _) => put_name(EntityKind::DataProperty, property, names, out),
         Axiom::DatatypeDefinition(datatype, range) => put_datatype_and_range(datatype, range, names, out),
         Axiom::HasKey(class, objects, values) => put_key(class, objects.as_slice(), values.as_slice(), names, out),
-        Axiom::SameIndividual(_) => {}
-        Axiom::DifferentIndividuals(_) => {}
         Axiom::ClassAssertion(class, _) => put_class(class, names, out),
-        Axiom::ObjectPropertyAssertion(property, _, _) => put_property(property, names, out),
-        Axiom::NegativeObjectPropertyAssertion(property, _, _) => put_property(property, names, out),
-        Axiom::DataPropertyAssertion(property, _, _) => put_name(EntityKind::DataProperty, property, names, out),
-        Axiom::NegativeDataPropertyAssertion(property, _, _) => put_name(EntityKind::DataProperty, property, names, out),
-        Axiom::Declaration(_) => {}
-        Axiom::AnnotationAssertion(_, _, _) => {}
-        Axiom::SubAnnotationPropertyOf(_, _) => {}
-        Axiom::AnnotationPropertyDomain(_, _) => {}
-        Axiom::AnnotationPropertyRange(_, _) => {}
+        Axiom::SameIndividual(_)
+        | Axiom::DifferentIndividuals(_)
+        | Axiom::Declaration(_)
+        | Axiom::AnnotationAssertion(_, _, _)
+        | Axiom::SubAnnotationPropertyOf(_, _)
+        | Axiom::AnnotationPropertyDomain(_, _)
+        | Axiom::AnnotationPropertyRange(_, _) => {}
     }
 }
 
