@@ -1,5 +1,5 @@
 -- Where rows nest, the largest rows among those of a slot's members are the same as the slot's.
-use Rattle.std.proofs.Common.{◌≡◌, ℕ, Bool, List, Some, None, length, slice_index, IsTrue, inl, inr, sym, ◌∙◌, ap, subst, arith}
+use Rattle.std.proofs.Common.{◌≡◌, ℕ, Bool, List, Some, length, slice_index, IsTrue, inl, inr, sym, ◌∙◌, subst, arith}
 use Rattle.std.specs.Cmp.{both_ways}
 use Rattle.std.specs.List.{Contains}
 use Rattle.ad_base.specs.declared.limits.Kind.{Kind}
@@ -40,7 +40,7 @@ module _ (tables : Tables) (kind : Kind) (order : List ℕ) (have : HaveRows tab
           λ k s.
               let inside : IsTrue (G a k) = has_in tables kind order have nest a k o ∙ s in
               let p = nest.within a k o inside in
-              let less = member_count-subset tables kind order have nest (have.rows k p).0 (have.rows b q).0 (subset tables kind order have nest b k q p (nest.nested b a k q up inside)) in
+              let less = member_count-subset (have.rows k p).0 (have.rows b q).0 (subset tables kind order have nest b k q p (nest.nested b a k q up inside)) in
               omega (arith, size_at tables kind order have nest k p, size_at tables kind order have nest b q),
         )
 
