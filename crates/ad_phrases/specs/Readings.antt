@@ -17,8 +17,8 @@ use Rattle.ad_build.proofs.Phrases.{properties_read, individuals_read, literals_
 use Rattle.ad_build.proofs.ClassPhrases.{classes_read}
 use Rattle.ad_build.proofs.Uniqueness.{once}
 
--- a form of phrase and the trees that it spells: each phrase of the form spells a tree, under some prefixes; where its
--- prefixes are known it spells one under others; and it spells one at most
+-- a form of phrase and the trees that it spells: each phrase of the form spells one under some prefixes, which are known
+-- then, and another under any others where they are known; and no two under the same
 pub record Reading (form : Form) (X : Type 0) (spells : Words → X → Text → Type 0) : Type 0 where
   pub spelled : (ts : Text) → IsOf false form ts → (words : Words) × (x : X) × spells words x ts
   pub moves : (words words' : Words) (x : X) (ts : Text) → spells words x ts → Moved words words' spells ts

@@ -16,8 +16,8 @@ use ad_lex::Token;
 use ad_tree::{Class, Individual, Literal, ObjProp, Range};
 use std::alloc::Global;
 
-// The trees that phrases of one form spell.
-pub(crate) trait PhraseTree: Sized + Drop {
+// A kind of tree, and the form of the phrases that spell one.
+pub(crate) trait PhraseTree: Sized {
     ghost use Rattle.ad_grammar.specs.Shapes.{Text};
     ghost use Rattle.ad_grammar.specs.Names.{Words};
     ghost use Rattle.ad_check.specs.declared.texts.Phrase.{Phrase};
@@ -27,7 +27,7 @@ pub(crate) trait PhraseTree: Sized + Drop {
 
     ghost spells: { Words → Self → Text → Type 0 };
 
-    // The form of the phrases that spell one.
+    // The form.
     const PHRASE: Phrase;
 
     // The tree that the tokens from this one on spell, if they spell one.
