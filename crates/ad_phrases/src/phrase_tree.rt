@@ -27,7 +27,7 @@ pub(crate) trait PhraseTree: Sized {
 
     ghost spells: { Words → Self → Text → Type 0 };
 
-    // The form.
+    // The form of those phrases.
     const PHRASE: Phrase;
 
     // The tree that the tokens from this one on spell, if they spell one.
