@@ -8,11 +8,12 @@ use Rattle.ad_grammar.specs.Names.{Words}
 use Rattle.ad_grammar.specs.Faults.{Form, IsLongest}
 use Rattle.ad_grammar_laws.specs.Known.{AreKnown}
 use Rattle.ad_prefixes.specs.Unknown.{is_unknown}
-use Rattle.ad_phrases.specs.Phrases.{HasPhrase, IsBuilt, RefusesPhrase}
+use Rattle.ad_phrases.specs.Readings.{Reading}
+use Rattle.ad_phrases.specs.Phrases.{IsBuilt, RefusesPhrase}
 use Rattle.ad_phrases.specs.Laws.{IsBuiltOrRefused}
 use Rattle.ad_phrases.specs.declared.phrases.BuildRefused.{BuildRefused}
 use Rattle.ad_phrases.specs.declared.phrases.BuildRefused.TheVariants as refused_by
-use Rattle.ad_phrases.proofs.Trees.{Reading, first_found, none_found, front_says}
+use Rattle.ad_phrases.proofs.Trees.{first_found, none_found, front_says}
 
 abbrev is_cause : BuildRefused → Bool
 is_cause refused_by.Memory = false
@@ -24,7 +25,7 @@ a_cause refused h e = true≢false (sym h ∙ ap is_cause e)
 size_is : (from size : ℕ) → from + size - from ≡ size
 size_is from size = omega arith
 
-module _ (form : Form) (X : Type 0) (spells : Words → X → Text → Type 0) (r : Reading form X spells) (words : Words) (text : List ℕ) (tokens : List Token) (from size : ℕ) (longest : IsLongest form (drop from (lexemes text tokens)) size) where
+module _ {form : Form} {X : Type 0} {spells : Words → X → Text → Type 0} (r : Reading form X spells) (words : Words) (text : List ℕ) (tokens : List Token) (from size : ℕ) (longest : IsLongest form (drop from (lexemes text tokens)) size) where
   abbrev phrase : Text
   phrase = take size (drop from (lexemes text tokens))
 
@@ -49,5 +50,5 @@ module _ (form : Form) (X : Type 0) (spells : Words → X → Text → Type 0) (
       by_find None e = inl (known_tree (subst (AreKnown words) (front_says text tokens from size) (none_found words text (take size (drop from tokens)) e)))
       by_find (Some t) e = inr (refused_by.Prefix t.from, a_cause (refused_by.Prefix t.from) refl, (t, record { size = size; longest = longest; first = first_found words text (take size (drop from tokens)) t e }, refl))
 
-pub built_either : (form : Form) (X : Type 0) (spells : Words → X → Text → Type 0) → Reading form X spells → IsBuiltOrRefused form spells
-built_either form X spells r words text tokens from (size, longest) = built_or_refused form X spells r words text tokens from size longest
+pub built_either : {form : Form} {X : Type 0} {spells : Words → X → Text → Type 0} → Reading form X spells → IsBuiltOrRefused form spells
+built_either r words text tokens from (size, longest) = built_or_refused r words text tokens from size longest

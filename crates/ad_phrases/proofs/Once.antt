@@ -10,11 +10,12 @@ use Rattle.ad_grammar.specs.Faults.{Form}
 use Rattle.ad_grammar_laws.specs.Known.{IsKnown, AreKnown}
 use Rattle.ad_grammar_laws.proofs.Words.{known_second}
 use Rattle.ad_check.proofs.Longest.{one_end}
+use Rattle.ad_phrases.specs.Readings.{Reading}
 use Rattle.ad_phrases.specs.Phrases.{IsBuilt, IsBuiltOrMemory, IsUnknownIn, IsPrefixOrMemory, RefusesPhrase}
 use Rattle.ad_phrases.specs.Laws.{IsBuiltOnce, IsNotRefused, IsRefusedOnce}
 use Rattle.ad_phrases.specs.declared.phrases.BuildRefused.{BuildRefused}
 use Rattle.ad_phrases.specs.declared.phrases.BuildRefused.TheVariants as refused_by
-use Rattle.ad_phrases.proofs.Trees.{Reading, front_says}
+use Rattle.ad_phrases.proofs.Trees.{front_says}
 
 -- the first token whose prefix isn't known
 unknown_not_known : (words : Words) (text : List ℕ) (ts before behind : List Token) (token : Token) → ts ≡ before ++ token ∷ behind → AreKnown words (lexemes text ts) → IsKnown words (lexeme text token)
@@ -35,7 +36,7 @@ unknown_once form words text tokens from t u h h' =
 same_end : (from to other : ℕ) → from ≤ to → from ≤ other → to - from ≡ other - from → to ≡ other
 same_end from to other a b e = omega (arith, a, b, e)
 
-module _ (form : Form) (X : Type 0) (spells : Words → X → Text → Type 0) (r : Reading form X spells) where
+module _ {form : Form} {X : Type 0} {spells : Words → X → Text → Type 0} (r : Reading form X spells) where
   pub built_once : IsBuiltOnce form spells
   built_once words ts from x y to other h h' =
       let size : to - from ≡ other - from = one_end form (drop from ts) (to - from) (other - from) h.longest h'.longest in

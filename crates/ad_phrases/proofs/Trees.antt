@@ -7,23 +7,12 @@ use Rattle.std.proofs.lemmas.List.{drop-take, take-map, drop-map}
 use Rattle.ad_lex.specs.Lexemes.{Lexeme, lexeme, lexemes}
 use Rattle.ad_lex.specs.Lexemes as says
 use Rattle.ad_lex.specs.declared.token.Token.{Token}
-use Rattle.ad_tree.specs.declared.names.ObjProp.{ObjProp}
-use Rattle.ad_tree.specs.declared.names.Individual.{Individual}
-use Rattle.ad_tree.specs.declared.literals.Literal.{Literal}
-use Rattle.ad_tree.specs.declared.ranges.Range.{Range}
-use Rattle.ad_tree.specs.declared.classes.Class.{Class}
 use Rattle.ad_grammar.specs.Shapes.{Text}
-use Rattle.ad_grammar.specs.Names.{Words, SpellsProperty, SpellsIndividual, SpellsLiteral}
-use Rattle.ad_grammar.specs.Phrases.{SpellsRange, SpellsClass}
-use Rattle.ad_grammar.specs.Faults.{Form, IsOf, IsLongest}
-use Rattle.ad_grammar.specs.Faults as form
-use Rattle.ad_grammar_laws.specs.Known.{IsKnown, AreKnown, Moved}
-use Rattle.ad_grammar_laws.proofs.Words.{class_moves, range_moves, property_moves, individual_moves, literal_moves}
-use Rattle.ad_terms.specs.Items.{as_class, as_range, as_property, as_individual, as_literal}
+use Rattle.ad_grammar.specs.Names.{Words}
+use Rattle.ad_grammar.specs.Faults.{Form, IsLongest}
+use Rattle.ad_grammar_laws.specs.Known.{IsKnown, AreKnown}
 use Rattle.ad_prefixes.specs.Unknown.{is_unknown}
-use Rattle.ad_build.proofs.Phrases.{properties_read, individuals_read, literals_read, ranges_read}
-use Rattle.ad_build.proofs.ClassPhrases.{classes_read}
-use Rattle.ad_build.proofs.Uniqueness.{once}
+use Rattle.ad_phrases.specs.Readings.{Reading}
 use Rattle.ad_phrases.specs.Phrases.{IsBuilt, IsFirstUnknown, RefusesPhrase, RefusesIn}
 use Rattle.ad_phrases.specs.declared.phrases.BuildRefused.{BuildRefused}
 use Rattle.ad_phrases.specs.declared.phrases.BuildRefused.TheVariants as refused_by
@@ -37,27 +26,6 @@ some_same {X} x y e = ap from e
     from : Option X → X
     from None = x
     from (Some z) = z
-
--- a form of phrase and the trees that it spells
-pub record Reading (form : Form) (X : Type 0) (spells : Words → X → Text → Type 0) : Type 1 where
-  pub spelled : (ts : Text) → IsOf false form ts → (words : Words) × (x : X) × spells words x ts
-  pub moves : (words words' : Words) (x : X) (ts : Text) → spells words x ts → Moved words words' spells ts
-  pub one : (words : Words) (x y : X) (ts : Text) → spells words x ts → spells words y ts → x ≡ y
-
-pub classes : Reading form.class Class (SpellsClass false)
-classes = record { spelled = λ ts h. h; moves = class_moves; one = λ words. once words (SpellsClass false words) as_class (classes_read words) }
-
-pub ranges : Reading form.range Range SpellsRange
-ranges = record { spelled = λ ts h. h; moves = range_moves; one = λ words. once words (SpellsRange words) as_range (ranges_read words) }
-
-pub properties : Reading form.property ObjProp SpellsProperty
-properties = record { spelled = λ ts h. h; moves = property_moves; one = λ words. once words (SpellsProperty words) as_property (properties_read words) }
-
-pub individuals : Reading form.individual Individual SpellsIndividual
-individuals = record { spelled = λ ts h. h; moves = individual_moves; one = λ words. once words (SpellsIndividual words) as_individual (individuals_read words) }
-
-pub literals : Reading form.literal Literal SpellsLiteral
-literals = record { spelled = λ ts h. h; moves = literal_moves; one = λ words. once words (SpellsLiteral words) as_literal (literals_read words) }
 
 -- prefixes that are known, and one that isn't
 some_is : (o : Option (List ℕ)) → is_none o ≡ false → (x : List ℕ) × (o ≡ Some x)
@@ -126,17 +94,18 @@ module _ (text : List ℕ) (tokens : List Token) (from to : ℕ) (order : from �
   phrase_says : lexemes text (drop from (take to tokens)) ≡ take (to - from) (drop from (lexemes text tokens))
   phrase_says = ap (lexemes text) phrase_is ∙ front_says text tokens from (to - from)
 
-  module _ (form : Form) (X : Type 0) (spells : Words → X → Text → Type 0) (r : Reading form X spells) (words : Words) (longest : IsLongest form (drop from (lexemes text tokens)) (to - from)) where
+  module _ {form : Form} (words : Words) (longest : IsLongest form (drop from (lexemes text tokens)) (to - from)) (list : List Token) (e : list ≡ tokens) where
     -- the tree that its tokens spell
-    pub tree_found : (phrase : List Token) → phrase ≡ drop from (take to tokens) → AreKnown words (lexemes text phrase) → (found : Option X) → ((x : X) → spells words x (lexemes text phrase) → found ≡ Some x) → (x : X) × (found ≡ Some x) × IsBuilt form (spells words) (lexemes text tokens) from x to
-    tree_found phrase e known found is =
+    pub tree_found : {X : Type 0} {spells : Words → X → Text → Type 0} (r : Reading form X spells) → AreKnown words (lexemes text (drop from (take to list))) → (found : Option X) → ((x : X) → spells words x (lexemes text (drop from (take to list))) → found ≡ Some x) → (x : X) × (found ≡ Some x) × IsBuilt form (spells words) (lexemes text tokens) from x to
+    tree_found {X} {spells} r known found is =
         let ts : Text = take (to - from) (drop from (lexemes text tokens)) in
-        let says_so : lexemes text phrase ≡ ts = ap (lexemes text) e ∙ phrase_says in
+        let says_so : lexemes text (drop from (take to list)) ≡ ts = ap (λ us. lexemes text (drop from (take to us))) e ∙ phrase_says in
         let own = r.spelled ts longest.phrase in
         let moved = (r.moves own.0 words own.1 ts own.2).1 (subst (AreKnown words) says_so known) in
         (moved.0, is moved.0 (subst (spells words moved.0) (sym says_so) moved.1), record { after = order; longest = longest; spelled = moved.1 })
 
     -- the name that keeps it from being built
-    pub name_found : (phrase : List Token) → phrase ≡ drop from (take to tokens) → (refused : BuildRefused) → RefusesIn words text phrase refused → RefusesPhrase form words text tokens from refused
-    name_found phrase e (refused_by.Prefix at) (token, first, place) = (token, record { size = to - from; longest = longest; first = subst (λ us. IsFirstUnknown words text us token) (e ∙ phrase_is) first }, place)
-    name_found phrase e refused_by.Memory h = absurd h
+    pub name_found : (refused : BuildRefused) → RefusesIn words text (drop from (take to list)) refused → RefusesPhrase form words text tokens from refused
+    name_found (refused_by.Prefix at) (token, first, place) =
+        (token, record { size = to - from; longest = longest; first = subst (λ us. IsFirstUnknown words text us token) (ap (λ us. drop from (take to us)) e ∙ phrase_is) first }, place)
+    name_found refused_by.Memory h = absurd h

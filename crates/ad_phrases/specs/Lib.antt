@@ -1,2 +1,3 @@
 pub mod Phrases
 pub mod Laws
+pub mod Readings

@@ -8,4 +8,5 @@ pub use phrases::{
 
 mod ends;
 mod laws;
+mod phrase_tree;
 mod phrases;

@@ -13,10 +13,12 @@ ghost use Rattle.ad_grammar.specs.Texts.{in_force};
 ghost use Rattle.ad_grammar.specs.Faults as form;
 ghost use Rattle.ad_grammar.specs.Nesting.{nesting};
 ghost use Rattle.ad_grammar_laws.specs.Known.{AreKnown};
+ghost use Rattle.ad_check.specs.Stops.{form_of};
 ghost use Rattle.ad_prefixes.specs.Declarations.{declarations};
 ghost use Rattle.ad_phrases.specs.Phrases.{HasPhrase, IsBuilt, IsBuiltOrMemory, IsUnknownIn, IsPrefixOrMemory, RefusesPhrase, RefusesIn};
 
-use crate::ends::{behind_class, behind_individual, behind_literal, behind_objprop, behind_range};
+use crate::ends::behind;
+use crate::phrase_tree::PhraseTree;
 use ad_base::Memory;
 use ad_build::{Prefixes, first_unknown};
 use ad_lex::{Token, Tokens};
@@ -61,13 +63,7 @@ pub fn build_class(
     ensures refused { IfErr result (RefusesPhrase form.class (in_force (declarations prefixes.now)) text.now tokens.now from) }
     ensures first { (token : Token) → IsUnknownIn form.class (in_force (declarations prefixes.now)) text.now tokens.now from token → IsPrefixOrMemory result token.from }
 {
-    let to = behind_class(text, tokens, from);
-    let phrase = &tokens.list()[..to as usize];
-    known(text, phrase, from as usize, prefixes)?;
-    match ad_build::build_class(alloc, text, phrase, from as usize, prefixes)? {
-        Some(class) => Ok((class, to)),
-        None => unreachable!(),
-    }
+    build(alloc, text, tokens, from, prefixes)
 }
 
 /// The data range that begins at a token, and the token behind the longest one.
@@ -87,13 +83,7 @@ pub fn build_range(
     ensures refused { IfErr result (RefusesPhrase form.range (in_force (declarations prefixes.now)) text.now tokens.now from) }
     ensures first { (token : Token) → IsUnknownIn form.range (in_force (declarations prefixes.now)) text.now tokens.now from token → IsPrefixOrMemory result token.from }
 {
-    let to = behind_range(text, tokens, from);
-    let phrase = &tokens.list()[..to as usize];
-    known(text, phrase, from as usize, prefixes)?;
-    match ad_build::build_range(alloc, text, phrase, from as usize, prefixes)? {
-        Some(range) => Ok((range, to)),
-        None => unreachable!(),
-    }
+    build(alloc, text, tokens, from, prefixes)
 }
 
 /// The object property that begins at a token, and the token behind the longest one.
@@ -113,13 +103,7 @@ pub fn build_objprop(
     ensures refused { IfErr result (RefusesPhrase form.property (in_force (declarations prefixes.now)) text.now tokens.now from) }
     ensures first { (token : Token) → IsUnknownIn form.property (in_force (declarations prefixes.now)) text.now tokens.now from token → IsPrefixOrMemory result token.from }
 {
-    let to = behind_objprop(text, tokens, from);
-    let phrase = &tokens.list()[..to as usize];
-    known(text, phrase, from as usize, prefixes)?;
-    match ad_build::build_objprop(alloc, text, phrase, from as usize, prefixes)? {
-        Some(property) => Ok((property, to)),
-        None => unreachable!(),
-    }
+    build(alloc, text, tokens, from, prefixes)
 }
 
 /// The individual that begins at a token, and the token behind the longest one.
@@ -139,13 +123,7 @@ pub fn build_individual(
     ensures refused { IfErr result (RefusesPhrase form.individual (in_force (declarations prefixes.now)) text.now tokens.now from) }
     ensures first { (token : Token) → IsUnknownIn form.individual (in_force (declarations prefixes.now)) text.now tokens.now from token → IsPrefixOrMemory result token.from }
 {
-    let to = behind_individual(text, tokens, from);
-    let phrase = &tokens.list()[..to as usize];
-    known(text, phrase, from as usize, prefixes)?;
-    match ad_build::build_individual(alloc, text, phrase, from as usize, prefixes)? {
-        Some(individual) => Ok((individual, to)),
-        None => unreachable!(),
-    }
+    build(alloc, text, tokens, from, prefixes)
 }
 
 /// The literal that begins at a token, and the token behind the longest one.
@@ -165,16 +143,36 @@ pub fn build_literal(
     ensures refused { IfErr result (RefusesPhrase form.literal (in_force (declarations prefixes.now)) text.now tokens.now from) }
     ensures first { (token : Token) → IsUnknownIn form.literal (in_force (declarations prefixes.now)) text.now tokens.now from token → IsPrefixOrMemory result token.from }
 {
-    let to = behind_literal(text, tokens, from);
+    build(alloc, text, tokens, from, prefixes)
+}
+
+// The tree that the phrase at a token spells, and the token behind the longest one.
+fn build<T: PhraseTree>(
+    alloc: Global,
+    text: &[u8],
+    tokens: &Tokens,
+    from: u32,
+    prefixes: &Prefixes,
+) -> Result<(T, u32), BuildRefused>
+    requires tokens { AreTokensOf text.now tokens.now }
+    requires from { from ≤ length tokens.now }
+    requires nesting { nesting (drop from (lexemes text.now tokens.now)) ≤ 128 }
+    requires phrase { HasPhrase (form_of T.PHRASE) (drop from (lexemes text.now tokens.now)) }
+    ensures built { IfOk result (λ built. IsBuilt (form_of T.PHRASE) (T.spells (in_force (declarations prefixes.now))) (lexemes text.now tokens.now) from built.0 built.1) }
+    ensures complete { (x : T) (to : ℕ) → IsBuilt (form_of T.PHRASE) (T.spells (in_force (declarations prefixes.now))) (lexemes text.now tokens.now) from x to → IsBuiltOrMemory result x to }
+    ensures refused { IfErr result (RefusesPhrase (form_of T.PHRASE) (in_force (declarations prefixes.now)) text.now tokens.now from) }
+    ensures first { (token : Token) → IsUnknownIn (form_of T.PHRASE) (in_force (declarations prefixes.now)) text.now tokens.now from token → IsPrefixOrMemory result token.from }
+{
+    let to = behind::<T>(text, tokens, from);
     let phrase = &tokens.list()[..to as usize];
     known(text, phrase, from as usize, prefixes)?;
-    match ad_build::build_literal(alloc, text, phrase, from as usize, prefixes)? {
-        Some(literal) => Ok((literal, to)),
+    match T::build(alloc, text, phrase, from as usize, prefixes)? {
+        Some(tree) => Ok((tree, to)),
         None => unreachable!(),
     }
 }
 
-/// Tries the prefixes of the tokens from one on.
+// Tries the prefixes of the tokens from one on.
 fn known(
     text: &[u8],
     tokens: &[Token],
