@@ -3,3 +3,4 @@ pub mod Depends
 pub mod Classes
 pub mod Nests
 pub mod Genuine
+pub mod Affected

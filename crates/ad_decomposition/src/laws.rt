@@ -1,7 +1,12 @@
 ghost use Rattle.std.specs.Prelude.{◌≡◌, ◌↔◌, ◌<◌, ℕ, Bool, List, Some, None, length, slice_index_or, IsTrue, IsFalse};
 ghost use Rattle.std.specs.List.{Contains};
 ghost use Rattle.ad_base.specs.declared.limits.Kind.{Kind};
+ghost use Rattle.ad_base.specs.declared.limits.Side.{Side};
 ghost use Rattle.ad_tables.specs.Rows.{Tables, of_kind};
+ghost use Rattle.ad_theory.specs.Genuine.{IsGenuine};
+ghost use Rattle.ad_theory.specs.Module.{IsAntitone};
+ghost use Rattle.ad_theory.specs.Numbers.{logic_of};
+ghost use Rattle.ad_decomposition.specs.Affected.{Change, IsChangeOfSlots, affected};
 ghost use Rattle.ad_decomposition.specs.Atoms.{atom_of, firsts, covers, depends, depends_strictly};
 ghost use Rattle.ad_decomposition.specs.Tables.{AreGenuine, AreNested, HaveRows, is_in_row_of};
 
@@ -54,4 +59,17 @@ pub fn covers_are_between<A>()
     ensures { (G : A → A → Bool) (order : List A) (a b : A) →
         IsTrue (covers G order a b) ↔ (IsTrue (depends_strictly G order a b) × ((c : A) → Contains order c →
         IsTrue (G c c) → IsTrue (depends_strictly G order a c) → IsFalse (depends_strictly G order c b))) }
+{}
+
+/// After a change, each axiom that it doesn't affect for a kind has as its genuine module of that kind the row that it
+/// had before.
+pub fn unaffected_stay()
+    ensures { (change : Change) (tables : Tables) (kind : Kind) (i : ℕ) →
+        IsChangeOfSlots change →
+        ((side : Side) → IsAntitone (logic_of change.before.symbols (change.before.local side))) →
+        ((side : Side) → IsAntitone (logic_of change.after.symbols (change.after.local side))) →
+        ((k : ℕ) → IsTrue (change.after.live k) → k < change.slots) →
+        AreGenuine change.before.symbols change.before.local change.before.live change.slots tables →
+        IsTrue (change.after.live i) → IsFalse (affected change tables kind i) →
+        IsGenuine kind change.after.symbols change.after.local change.after.live i (is_in_row_of tables kind i) }
 {}

@@ -4,7 +4,7 @@
 
 pub use laws::{
     atoms_are_classes, covers_are_between, live_have_rows, nested_depends, rows_nest,
-    tables_are_one,
+    tables_are_one, unaffected_stay,
 };
 
 mod laws;

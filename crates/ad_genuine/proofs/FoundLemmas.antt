@@ -8,7 +8,8 @@ use Rattle.ad_base.specs.declared.limits.Kind.{Kind}
 use Rattle.ad_base.specs.declared.limits.Side.{Side}
 use Rattle.ad_theory.specs.Tally.{IsRaisedBy}
 use Rattle.ad_genuine.specs.declared.found.Found.{Found}
-use Rattle.ad_genuine.specs.Found.{AreFound, IsGenuineRow, rows_of_kind, runs_of}
+use Rattle.ad_genuine.specs.Found.{AreFound, rows_of_kind, runs_of}
+use Rattle.ad_groups.specs.GenuineRows.{IsGenuineRow}
 
 -- two lists that are zipped, at a place
 pub zip_at : {X Y : Type 0} (R : X → Y → Type 0) (xs : List X) (ys : List Y) (i : ℕ) (d : X) (e : Y) → AllZip R xs ys → i < length xs → R (get_or xs i d) (get_or ys i e)

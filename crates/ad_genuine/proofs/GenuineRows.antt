@@ -10,11 +10,17 @@ use Rattle.ad_tables.specs.Rows.{Tables, of_kind, row_of}
 use Rattle.ad_theory.proofs.Members.{either}
 use Rattle.ad_decomposition.specs.Tables.{AreGenuine}
 use Rattle.ad_genuine.specs.declared.found.Found.{Found}
-use Rattle.ad_genuine.specs.Found.{AreFound, IsGenuineRow, rows_of_kind}
-use Rattle.ad_genuine.specs.Groups.{AreGroups}
-use Rattle.ad_genuine.specs.Signatures.{same_members}
+use Rattle.ad_genuine.specs.Found.{AreFound, rows_of_kind}
+use Rattle.ad_groups.specs.GenuineRows.{IsGenuineRow}
+use Rattle.ad_groups.specs.Groups.{AreGroups}
+use Rattle.ad_groups.specs.Signatures.{same_members}
 use Rattle.ad_genuine.proofs.FoundLemmas.{zip_at, zip_long}
-use Rattle.ad_genuine.proofs.KeyLemmas.{same_among}
+use Rattle.ad_groups.proofs.KeyLemmas.{same_among}
+
+-- the groups of the slots in a row whose members are the live slots
+pub live_groups : {symbols : ℕ → List ℕ} {row live : ℕ → Bool} {n : ℕ} {groups : List (Option ℕ)} {firsts : List ℕ} → ((i : ℕ) → row i ≡ live i)
+    → AreGroups symbols row n groups firsts → AreGroups symbols live n groups firsts
+live_groups {symbols} {n = n} {groups = groups} {firsts = firsts} same are = subst (λ wanted. AreGroups symbols wanted n groups firsts) (λ j i. same i j) are
 
 module _ (symbols : ℕ → List ℕ) (local : Side → (ℕ → Bool) → ℕ → Bool) (live : ℕ → Bool) (slots : ℕ) where
   -- a genuine module is that of each axiom with the same signature
@@ -29,7 +35,7 @@ module _ (symbols : ℕ → List ℕ) (local : Side → (ℕ → Bool) → ℕ �
     pub group_below : (kind : Kind) (i g : ℕ) → get_or groups i None ≡ Some g → g < length (rows_of_kind found kind)
     group_below kind i g e = elim (either (live i)) [
       | inl t ↦ (
-          let r = are.of_live i (below i t) t in
+          let r = are.of_wanted i (below i t) t in
           let both : Some r.0 ≡ Some g = sym r.1 ∙ e in
           let same : r.0 ≡ g = cc in
           omega (arith, r.2, same, zip_long (IsGenuineRow symbols local live slots kind) firsts (rows_of_kind found kind) (rows.rows kind)))
@@ -40,7 +46,7 @@ module _ (symbols : ℕ → List ℕ) (local : Side → (ℕ → Bool) → ℕ �
     tables_genuine tables long are_rows = record {
       long = long;
       rows = λ kind i t.
-          let r = are.of_live i (below i t) t in
+          let r = are.of_wanted i (below i t) t in
           let row = get_or (rows_of_kind found kind) r.0 [] in
           let at = zip_at (IsGenuineRow symbols local live slots kind) firsts (rows_of_kind found kind) r.0 0 [] (rows.rows kind) r.2 in
           (row, are_rows kind i ∙ ap (option_map (λ g. get_or (rows_of_kind found kind) g [])) r.1, at.size, genuine_same kind (get_or firsts r.0 0) i (has row) r.3 at.genuine);

@@ -5,8 +5,7 @@ use Rattle.std.specs.List.{AllZip}
 use Rattle.ad_base.specs.declared.limits.Kind.{Kind}
 use Rattle.ad_base.specs.declared.limits.Kind.TheVariants.{Bottom, Top, Star}
 use Rattle.ad_base.specs.declared.limits.Side.{Side}
-use Rattle.ad_bits.specs.Rows.{has}
-use Rattle.ad_theory.specs.Genuine.{IsGenuine}
+use Rattle.ad_groups.specs.GenuineRows.{IsGenuineRow}
 use Rattle.ad_genuine.specs.declared.found.Found.{Found}
 
 -- the rows of a kind, in order
@@ -18,11 +17,6 @@ rows_of_kind found Star = map (λ row. arc_value row) found.star.items
 -- how many extractions were made for them
 abbrev pub runs_of : Found → ℕ
 runs_of found = found.tally.runs
-
--- the row is the genuine module of this kind of the slot's axiom, over so many slots
-pub record IsGenuineRow (symbols : ℕ → List ℕ) (local : Side → (ℕ → Bool) → ℕ → Bool) (live : ℕ → Bool) (slots : ℕ) (kind : Kind) (slot : ℕ) (row : List Bool) : Type 0 where
-  pub size : length row ≡ slots
-  pub genuine : IsGenuine kind symbols local live slot (has row)
 
 -- the genuine modules of these slots, of each kind, in order; one extraction was made for each
 pub record AreFound (symbols : ℕ → List ℕ) (local : Side → (ℕ → Bool) → ℕ → Bool) (live : ℕ → Bool) (slots : ℕ) (of : List ℕ) (found : Found) : Type 0 where

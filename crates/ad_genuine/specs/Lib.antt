@@ -1,4 +1,1 @@
-pub mod Signatures
-pub mod Keys
-pub mod Groups
 pub mod Found

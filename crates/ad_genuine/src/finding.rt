@@ -3,12 +3,13 @@ ghost use Rattle.ad_base.specs.Limits.{AreWithinStandard};
 ghost use Rattle.ad_decomposition.specs.Tables.{AreGenuine};
 ghost use Rattle.ad_theory.specs.Numbers.{AreSizesOf};
 ghost use Rattle.ad_theory.specs.Tally.{IsRaisedBy};
-ghost use Rattle.ad_genuine.specs.Signatures.{signature_count};
+ghost use Rattle.ad_groups.specs.Signatures.{signature_count};
 
-use crate::grouping::grouped;
+use crate::live::live_slots;
 use crate::parts::find_shared;
 use crate::tables::rows_for;
 use ad_base::{Limits, Memory};
+use ad_groups::grouped;
 use ad_tables::Rows;
 use ad_theory::{Extractor, Tally, Universe};
 use std::alloc::Global;
@@ -31,7 +32,8 @@ pub fn scratch<U: Universe + Sync, E: Extractor + Send>(
     ensures tests { tally.old.tests ≤ tally.new.tests }
     ensures counted { tally.old.runs ≤ tally.new.runs }
 {
-    let grouping = grouped(alloc, universe)?;
+    let live = live_slots(alloc, universe)?;
+    let grouping = grouped(alloc, universe, &live)?;
     let found = find_shared::<U, E>(rt, alloc, universe, limits, &grouping.firsts)?;
     tally.add(&found.tally);
     rows_for(alloc, &grouping.groups, &found)

@@ -8,9 +8,9 @@ ghost use Rattle.ad_theory.specs.Tally.{IsRaisedBy};
 ghost use Rattle.ad_genuine.specs.declared.found.Found.{Found};
 ghost use Rattle.ad_genuine.specs.Found.{AreFound, rows_of_kind, runs_of};
 
-use crate::finder::Finder;
 use ad_base::{Kind, Limits, Memory};
 use ad_bits::Row;
+use ad_groups::Finder;
 use ad_theory::{Extractor, Tally, Universe};
 use std::alloc::Global;
 use std::sync::Arc;

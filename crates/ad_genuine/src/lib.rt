@@ -3,10 +3,8 @@
 
 pub use finding::scratch;
 
-mod finder;
 mod finding;
 mod found;
-mod grouping;
-mod key;
+mod live;
 mod parts;
 mod tables;

@@ -1,0 +1,4 @@
+pub mod Signatures
+pub mod Keys
+pub mod Groups
+pub mod GenuineRows
