@@ -1,4 +1,4 @@
-ghost use Rattle.std.specs.Prelude.{◌≡◌, ◌+◌, ◌∷◌, ◌++◌, [], ◌<◌, ◌⊎◌, ℕ, List, Option, Some, None, IsTrue, IfOk, cond, length};
+ghost use Rattle.std.specs.Prelude.{◌≡◌, ◌+◌, ◌∷◌, ◌++◌, [], ◌<◌, ◌⊎◌, ℕ, List, Option, Some, None, IfOk, cond, length};
 ghost use Rattle.std.specs.Str.{bytes_eq};
 ghost use Rattle.ad_bits.specs.Rows.{has};
 ghost use Rattle.ad_groups.specs.Keys.{value_at};
@@ -14,7 +14,7 @@ use std::collections::BTreeMap;
 /// Slots that are grouped by signature.
 #[derive(Drop)]
 pub struct Grouping {
-    /// The group of each slot; None exactly where none is wanted for it.
+    /// The group of each slot; None exactly where the slot is not wanted.
     pub groups: Vec<Option<u32>>,
     /// The first slot of each group.
     pub firsts: Vec<u32>,
