@@ -1,0 +1,4 @@
+//! Axioms in numbered slots, as a test and a list of cells, and the lists of slots that are looked up.
+#![tactic(auto)]
+
+pub mod rising;
