@@ -152,3 +152,35 @@ module _ (xs ys : List ℕ) (n i : ℕ) (same : ys ≡ xs) (sorted : IsStrictlyS
         | inl b ↦ (let low : get_or xs k 0 < n = at.1 k b in omega arith)
         | inr a ↦ (let high : n < get_or xs k 0 = at.2 k a l in omega arith)
       ])
+
+-- lists that rise and have the same numbers are the same
+
+apart : (x y : ℕ) (xs ys : List ℕ) → IsBelowAll x xs → IsBelowAll y ys → IsTrue (among (y ∷ ys) x) → IsTrue (among (x ∷ xs) y) → x ≡ y
+apart x y xs ys under over t u = elim (or_cases (y == x) (among ys x) t) [
+  | inl e ↦ sym (eqb-true y x e)
+  | inr a ↦ elim (or_cases (x == y) (among xs y) u) [
+    | inl e ↦ eqb-true x y e
+    | inr b ↦ (
+      let low : x < y = ranked x y Less (sym (below_each x xs under y b)) in
+      let high : y < x = ranked y x Less (sym (below_each y ys over x a)) in absurd (omega arith))
+  ]
+]
+
+absent : (x : ℕ) (xs : List ℕ) → IsBelowAll x xs → among xs x ≡ false
+absent x xs under = elim (either (among xs x)) [ inl t ↦ absurd (not_itself x (below_each x xs under x t)) | inr f ↦ f ]
+
+rest_same : (x m : ℕ) (xs ys : List ℕ) → IsBelowAll x xs → IsBelowAll x ys → ((x == m) || among xs m) ≡ ((x == m) || among ys m) → among xs m ≡ among ys m
+rest_same x m xs ys under over same = elim (either (x == m)) [
+  | inl t ↦ (let is : x ≡ m = eqb-true x m t in ap (among xs) (sym is) ∙ absent x xs under ∙ sym (absent x ys over) ∙ ap (among ys) is)
+  | inr f ↦ sym (ap (λ b. b || among xs m) f) ∙ same ∙ ap (λ b. b || among ys m) f
+]
+
+pub same_rising : (xs ys : List ℕ) → IsStrictlySortedBy nat_cmp xs → IsStrictlySortedBy nat_cmp ys → ((m : ℕ) → among xs m ≡ among ys m) → xs ≡ ys
+unfolding IsStrictlySortedBy
+same_rising [] [] p q same = refl
+same_rising [] (y ∷ ys) p q same = absurd (not_both (or_left (y == y) (among ys y) (eq-eqb y y refl)) (sym (same y)))
+same_rising (x ∷ xs) [] p q same = absurd (not_both (or_left (x == x) (among xs x) (eq-eqb x x refl)) (same x))
+same_rising (x ∷ xs) (y ∷ ys) p q same =
+    let is : x ≡ y = apart x y xs ys p.0 q.0 (sym (same x) ∙ or_left (x == x) (among xs x) (eq-eqb x x refl)) (same y ∙ or_left (y == y) (among ys y) (eq-eqb y y refl)) in
+    let over : IsBelowAll x ys = subst (λ k. IsBelowAll k ys) (sym is) q.0 in
+    ap (λ k. k ∷ xs) is ∙ ap (λ l. y ∷ l) (same_rising xs ys p.1 q.1 (λ m. rest_same x m xs ys p.0 over (same m ∙ ap (λ k. (k == m) || among ys m) (sym is))))

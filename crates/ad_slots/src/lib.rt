@@ -1,4 +1,5 @@
 //! Axioms in numbered slots, as a test and a list of cells, and the lists of slots that are looked up.
 #![tactic(auto)]
 
+pub mod laws;
 pub mod rising;
