@@ -59,10 +59,12 @@ range_within p a (suc n) j l m = elim (either (a == j)) [
 -- a slot is listed where it passes
 pub listed : (test : Option Held → Bool) → test None ≡ false → (slots : List (Option Held)) (i : ℕ) → among (slots_where test slots) i ≡ test (slot_at slots i)
 listed test free slots i = elim (either (nat_lt i (length slots))) [
-  | inl t ↦ range_within (λ j. test (slot_at slots j)) 0 (length slots) i (omega arith) (ltb-true i (length slots) t)
+  | inl t ↦ (
+    let within : i < length slots = ltb-true i (length slots) t in
+    range_within (λ j. test (slot_at slots j)) 0 (length slots) i (omega arith) (omega arith))
   | inr f ↦ (
     let past : length slots ≤ i = ltb-false i (length slots) f in
-    range_past (λ j. test (slot_at slots j)) 0 (length slots) i past ∙ sym free ∙ ap test (sym (get_or_past slots i None past)))
+    range_past (λ j. test (slot_at slots j)) 0 (length slots) i (omega arith) ∙ sym free ∙ ap test (sym (get_or_past slots i None past)))
 ]
 
 pub rising_where : (test : Option Held → Bool) (slots : List (Option Held)) → IsStrictlySortedBy nat_cmp (slots_where test slots)
