@@ -2,7 +2,11 @@
 #![tactic(auto)]
 
 pub use cell::{Cell, Test};
+pub use laws::codes_shrink;
 pub use operands::Operands;
+pub use scan::is_local;
 
 mod cell;
+mod laws;
 mod operands;
+mod scan;
