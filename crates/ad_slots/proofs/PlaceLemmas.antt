@@ -52,19 +52,19 @@ range_within p a (suc n) j l m = elim (either (a == j)) [
   | inl t ↦ subst (λ k. among (cond (p a) (a ∷ filter p (range_with_len (a + 1) n)) (filter p (range_with_len (a + 1) n))) k ≡ p k) (eqb-true a j t)
       (stands_here (p a) a (filter p (range_with_len (a + 1) n)) (range_below p (a + 1) n a (omega arith)))
   | inr f ↦ (
-    let other : a ≢ j = λ e. not_both (eq-eqb a j e) f in
-    step_over (p a) a j (filter p (range_with_len (a + 1) n)) other ∙ range_within p (a + 1) n j (omega arith) (omega arith))
+      let other : a ≢ j = λ e. not_both (eq-eqb a j e) f in
+      step_over (p a) a j (filter p (range_with_len (a + 1) n)) other ∙ range_within p (a + 1) n j (omega arith) (omega arith))
 ]
 
 -- a slot is listed where it passes
 pub listed : (test : Option Held → Bool) → test None ≡ false → (slots : List (Option Held)) (i : ℕ) → among (slots_where test slots) i ≡ test (slot_at slots i)
 listed test free slots i = elim (either (nat_lt i (length slots))) [
   | inl t ↦ (
-    let within : i < length slots = ltb-true i (length slots) t in
-    range_within (λ j. test (slot_at slots j)) 0 (length slots) i (omega arith) (omega arith))
+      let within : i < length slots = ltb-true i (length slots) t in
+      range_within (λ j. test (slot_at slots j)) 0 (length slots) i (omega arith) (omega arith))
   | inr f ↦ (
-    let past : length slots ≤ i = ltb-false i (length slots) f in
-    range_past (λ j. test (slot_at slots j)) 0 (length slots) i (omega arith) ∙ sym free ∙ ap test (sym (get_or_past slots i None past)))
+      let past : length slots ≤ i = ltb-false i (length slots) f in
+      range_past (λ j. test (slot_at slots j)) 0 (length slots) i (omega arith) ∙ sym free ∙ ap test (sym (get_or_past slots i None past)))
 ]
 
 pub rising_where : (test : Option Held → Bool) (slots : List (Option Held)) → IsStrictlySortedBy nat_cmp (slots_where test slots)

@@ -161,8 +161,8 @@ apart x y xs ys under over t u = elim (or_cases (y == x) (among ys x) t) [
   | inr a ↦ elim (or_cases (x == y) (among xs y) u) [
     | inl e ↦ eqb-true x y e
     | inr b ↦ (
-      let low : x < y = ranked x y Less (sym (below_each x xs under y b)) in
-      let high : y < x = ranked y x Less (sym (below_each y ys over x a)) in absurd (omega arith))
+        let low : x < y = ranked x y Less (sym (below_each x xs under y b)) in
+        let high : y < x = ranked y x Less (sym (below_each y ys over x a)) in absurd (omega arith))
   ]
 ]
 
