@@ -1,5 +1,5 @@
 -- Numbered slots, of which some hold axioms and the others are free. Slots past the end of the list are free.
-use Rattle.std.specs.Prelude.{◌≡◌, ◌<◌, ℕ, zero, suc, Bool, true, false, not, List, [], ◌∷◌, Option, None, Some, is_some, IsTrue, IsFalse, length, slice_index_or}
+use Rattle.std.specs.Prelude.{◌≡◌, ◌≢◌, ◌<◌, ℕ, zero, suc, Bool, true, false, not, List, [], ◌∷◌, Option, None, Some, is_some, IsTrue, IsFalse, length, slice_index_or}
 use Rattle.std.specs.List.{filter, range_with_len}
 use Rattle.ad_base.specs.declared.limits.Side.{Side}
 use Rattle.ad_theory.specs.Numbers.{among}
@@ -62,3 +62,8 @@ AreCovered slots = (i : ℕ) (h : Held) → slot_at slots i ≡ Some h → IsCov
 -- all symbols of what is held are below the bound
 abbrev pub AreHeldBelow : ℕ → List (Option Held) → Type 0
 AreHeldBelow symbols slots = (i s : ℕ) → IsTrue (among (held_symbols slots i) s) → s < symbols
+
+-- slot i holds this, and all other slots hold what they held
+pub record IsReplaced (i : ℕ) (slot : Option Held) (before after : List (Option Held)) : Type 0 where
+  pub here : slot_at after i ≡ slot
+  pub others : (j : ℕ) → j ≢ i → slot_at after j ≡ slot_at before j
