@@ -3,7 +3,6 @@ use Rattle.std.proofs.Common.{◌≡◌, ℕ, List, [], ◌∷◌, ◌++◌, len
 use Rattle.std.specs.List.{flat_map}
 use Rattle.std.proofs.lemmas.List.{length-map}
 use Rattle.std.proofs.lemmas.List.Folds.{flat_map-map}
-use Rattle.ad_locality.specs.Columns.{everything}
 use Rattle.ad_locality.specs.Locality.{enumeration}
 use Rattle.ad_entity.specs.declared.entities.Entity.{Entity}
 use Rattle.ad_entity.specs.declared.entities.EntityKind.TheVariants as kinds
@@ -23,7 +22,7 @@ use Rattle.ad_tree.specs.declared.classes.Class.TheViews.{roll-Class}
 use Rattle.ad_tree.specs.declared.classes.Class.TheFolds.{fold-Class, map-Class, fold-roll-Class}
 use Rattle.ad_cells.specs.declared.cell.Cell.{Cell}
 use Rattle.ad_cells.specs.declared.cell.Cell.TheVariants as cells
-use Rattle.ad_codes.specs.Encoded.{name_cell, property_cell, applied_to, restriction, range_step, range_code, optional_range_code, class_step, class_code}
+use Rattle.ad_codes.specs.Encoded.{name_cell, property_cell, applied_to, restriction, range_step, range_code, optional_range_code, class_step, class_code, optional_class_code}
 
 applied_to-map : {X : Type 0} (operator : ℕ → Cell) (f : X → List Cell) (xs : List X) → applied_to operator (map f xs) ≡ flat_map f xs ++ operator (length xs) ∷ []
 applied_to-map operator f xs =
@@ -31,11 +30,6 @@ applied_to-map operator f xs =
     ∙ ap (λ n. flat_map f xs ++ operator n ∷ []) (length-map xs f)
 
 module _ (number : Entity → Option ℕ) where
-  -- a cardinality without a filler counts everything
-  abbrev pub optional_class_code : Option Class → List Cell
-  optional_class_code None = cells.Known everything ∷ []
-  optional_class_code (Some class) = class_code number class
-
   range_code-at : (x : Range) (y : Range-F Range) → roll-Range y ≡ x → range_code number x ≡ range_step number (map-Range Range (List Cell) (range_code number) y)
   unfolding range_code
   range_code-at x y e = ap (fold-Range (List Cell) (range_step number)) (sym e) ∙ fold-roll-Range (List Cell) (range_step number) y
@@ -89,15 +83,15 @@ module _ (number : Entity → Option ℕ) where
   pub class_code-obj_self : (property : ObjProp) → class_code number (c.ObjSelf property) ≡ property_cell number property ∷ []
   class_code-obj_self property = class_code-at _ _ (c.rolls-ObjSelf property)
 
-  pub class_code-obj_min : (n : ℕ) (property : ObjProp) (filler : Option Class) → class_code number (c.ObjMin n property filler) ≡ restriction (cells.AtLeast n) (property_cell number property) (optional_class_code filler)
+  pub class_code-obj_min : (n : ℕ) (property : ObjProp) (filler : Option Class) → class_code number (c.ObjMin n property filler) ≡ restriction (cells.AtLeast n) (property_cell number property) (optional_class_code number filler)
   class_code-obj_min n property None = class_code-at _ _ (c.rolls-ObjMin n property None)
   class_code-obj_min n property (Some filler) = class_code-at _ _ (c.rolls-ObjMin n property (Some filler))
 
-  pub class_code-obj_max : (n : ℕ) (property : ObjProp) (filler : Option Class) → class_code number (c.ObjMax n property filler) ≡ restriction (cells.AtMost n) (property_cell number property) (optional_class_code filler)
+  pub class_code-obj_max : (n : ℕ) (property : ObjProp) (filler : Option Class) → class_code number (c.ObjMax n property filler) ≡ restriction (cells.AtMost n) (property_cell number property) (optional_class_code number filler)
   class_code-obj_max n property None = class_code-at _ _ (c.rolls-ObjMax n property None)
   class_code-obj_max n property (Some filler) = class_code-at _ _ (c.rolls-ObjMax n property (Some filler))
 
-  pub class_code-obj_exact : (n : ℕ) (property : ObjProp) (filler : Option Class) → class_code number (c.ObjExact n property filler) ≡ restriction (cells.Exactly n) (property_cell number property) (optional_class_code filler)
+  pub class_code-obj_exact : (n : ℕ) (property : ObjProp) (filler : Option Class) → class_code number (c.ObjExact n property filler) ≡ restriction (cells.Exactly n) (property_cell number property) (optional_class_code number filler)
   class_code-obj_exact n property None = class_code-at _ _ (c.rolls-ObjExact n property None)
   class_code-obj_exact n property (Some filler) = class_code-at _ _ (c.rolls-ObjExact n property (Some filler))
 

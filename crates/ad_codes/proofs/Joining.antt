@@ -19,9 +19,8 @@ use Rattle.ad_syntax_laws.proofs.Equations as eq
 use Rattle.ad_cells.specs.declared.cell.Cell.{Cell}
 use Rattle.ad_cells.specs.declared.cell.Cell.TheVariants as cells
 use Rattle.ad_cells.specs.Codes.{symbol_in, symbols_of}
-use Rattle.ad_codes.specs.Encoded.{name_cell, property_cell, restriction, range_code, optional_range_code, class_code, code_of}
+use Rattle.ad_codes.specs.Encoded.{name_cell, property_cell, restriction, range_code, optional_range_code, class_code, optional_class_code, code_of}
 use Rattle.ad_codes.proofs.CodeEquations as code
-use Rattle.ad_codes.proofs.CodeEquations.{optional_class_code}
 
 -- P holds of the codes of a name, of a code without numbers with any entities, and of codes one after another
 pub record IsJoining (number other : Entity → Option ℕ) (P : List Cell → List Cell → List Entity → Type 0) : Type 0 where

@@ -1,7 +1,8 @@
 pub mod CodeEquations
 pub mod Running
-pub mod Ranges
-pub mod Classes
-pub mod Axioms
+pub mod RangeLemmas
+pub mod ClassLemmas
+pub mod AxiomLemmas
+pub mod Putting
 pub mod Joining
 pub mod SignatureLemmas

@@ -89,6 +89,10 @@ class_step number (Class-F.DataExact n property filler) = restriction (cells.Exa
 unfoldable pub class_code : (Entity → Option ℕ) → Class → List Cell
 class_code number = fold-Class (List Cell) (class_step number)
 
+abbrev pub optional_class_code : (Entity → Option ℕ) → Option Class → List Cell
+optional_class_code number None = cells.Known everything ∷ []
+optional_class_code number (Some class) = class_code number class
+
 -- what the axiom asks of its operands
 abbrev pub test_of : Axiom → Test
 test_of (axioms.SubClassOf sub super) = tests.Below

@@ -1,4 +1,4 @@
-use Rattle.ad_codes.proofs.Axioms.{code_local}
+use Rattle.ad_codes.proofs.AxiomLemmas.{code_local}
 use Rattle.ad_codes.proofs.SignatureLemmas.{code_stays, code_within}
 use Rattle.ad_codes.proofs.laws.codes_are_trees.Goals as goal
 

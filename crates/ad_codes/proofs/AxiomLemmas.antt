@@ -18,8 +18,8 @@ use Rattle.ad_cells.specs.declared.cell.Test.TheVariants as tests
 use Rattle.ad_cells.specs.Codes.{run, passes, is_local_code}
 use Rattle.ad_codes.specs.Encoded.{name_cell, property_cell, range_code, class_code, test_of, code_of}
 use Rattle.ad_codes.proofs.Running.{pushed, pushed-append, passes-equivalent, passes-disjoint, passes-any_empty, passes-chain, passes-disjoint_union, equivalent-two, PutsOne, Puts, puts-cell, puts-first, run-append, run-each, run-cells}
-use Rattle.ad_codes.proofs.Ranges.{seen_by, puts-name, puts-property, range_puts}
-use Rattle.ad_codes.proofs.Classes.{class_puts}
+use Rattle.ad_codes.proofs.RangeLemmas.{seen_by, puts-name, puts-property, range_puts}
+use Rattle.ad_codes.proofs.ClassLemmas.{class_puts}
 
 -- one is empty, of what a list is mapped to
 any_empty-map : {X : Type 0} (g : X → Surely) (xs : List X) → list_any (λ c. c.empty) (map g xs) ≡ list_any (λ x. (g x).empty) xs

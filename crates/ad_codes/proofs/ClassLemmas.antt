@@ -16,11 +16,10 @@ use Rattle.ad_syntax_laws.proofs.Equations.{optional_class}
 use Rattle.ad_cells.specs.declared.cell.Cell.{Cell}
 use Rattle.ad_cells.specs.declared.cell.Cell.TheVariants as cells
 use Rattle.ad_cells.specs.Codes.{step, on_two}
-use Rattle.ad_codes.specs.Encoded.{name_cell, property_cell, restriction, range_code, optional_range_code, class_code}
+use Rattle.ad_codes.specs.Encoded.{name_cell, property_cell, restriction, range_code, optional_range_code, class_code, optional_class_code}
 use Rattle.ad_codes.proofs.CodeEquations as code
-use Rattle.ad_codes.proofs.CodeEquations.{optional_class_code}
 use Rattle.ad_codes.proofs.Running.{Puts, puts-cell, puts-on_one, puts-on_two, puts-intersection, puts-union}
-use Rattle.ad_codes.proofs.Ranges.{seen_by, puts-name, puts-property, at_layer, range_puts, optional_range_puts}
+use Rattle.ad_codes.proofs.RangeLemmas.{seen_by, puts-name, puts-property, at_layer, range_puts, optional_range_puts}
 
 module _ (side : Side) (seen : ℕ → Bool) (number : Entity → Option ℕ) where
   abbrev here : Entity → Bool

@@ -1,0 +1,8 @@
+-- The cells of the properties so far were put.
+use Rattle.std.proofs.Common.{take, map}
+use Rattle.ad_codes.specs.Encoded.{property_cell}
+use Rattle.ad_codes.specs.Encoding.{Adds}
+use Rattle.ad_codes.proofs.axioms.put_properties.Given as goal
+
+abbrev pub invariant-properties : goal.invariant-properties
+invariant-properties g l = Adds l.fn.out l.out (map (property_cell (g.N.Naming.number_of l.names)) (take l.property-index l.properties))

@@ -1,0 +1,5 @@
+use Rattle.ad_codes.proofs.Putting.{adds_after}
+use Rattle.ad_codes.proofs.classes.put_data_cardinality.Goals as goal
+
+pub returns : goal.returns
+returns g c = adds_after (adds_after c.put_name.ensures c.put_optional_range.ensures) c.put.ensures
