@@ -1,7 +1,8 @@
 -- Lists of slots by symbols.
-use Rattle.std.proofs.Common.{◌≡◌, ◌≢◌, ◌<◌, ◌≤◌, ◌==◌, ◌||◌, ◌++◌, ◌+◌, ◌-◌, ℕ, zero, suc, Bool, true, false, List, [], ◌∷◌, length, get_or, IsTrue, IsFalse, refl, sym, ap, ◌∙◌, subst, inl, inr, arith, eqb-true, eq-eqb}
+use Rattle.std.proofs.Common.{◌≡◌, ◌≢◌, ◌<◌, ◌≤◌, ◌==◌, ◌||◌, ◌++◌, ◌+◌, ◌-◌, ℕ, zero, suc, Bool, true, false, List, [], ◌∷◌, length, get_or, take, Option, Some, IsTrue, IsFalse, refl, sym, ap, ◌∙◌, subst, inl, inr, arith, eqb-true, eq-eqb}
 use Rattle.std.specs.List.{slice_set}
-use Rattle.std.proofs.lemmas.List.{get_or-set_same, get_or-set_other, get_or_past}
+use Rattle.std.proofs.Math.Seq.{get_or-append_seam}
+use Rattle.std.proofs.lemmas.List.{get_or-set_same, get_or-set_other, get_or_past, get_or_append_left, get_or-take, length-take-le, take-take}
 use Rattle.ad_theory.specs.Numbers.{among}
 use Rattle.ad_theory.proofs.Members.{either, not_both, or_left, or_right, or_cases}
 use Rattle.ad_flat.specs.declared.lists.Change.{Change}
@@ -76,12 +77,28 @@ pub new_more : (change : Change) (slot : ℕ) (symbols : List ℕ) (lists news a
 new_more change slot symbols lists news after i old list long is was changed each k l = elim (either (k == i)) [
   | inl t ↦ (
     let e : i ≡ k = sym (eqb-true k i t) in
-    let there : list_of after i ≡ list = ap (λ ls. list_of ls i) is ∙ ap (list_of (news ++ list ∷ [])) (sym long) ∙ get_or-append_here news list in
+    let there : list_of after i ≡ list = ap (λ ls. list_of ls i) is ∙ ap (list_of (news ++ list ∷ [])) (sym long) ∙ get_or-append_seam news list [] [] in
     subst (λ j. IsChanged change slot (list_of lists (get_or symbols j 0)) (list_of after j)) e
     (subst (λ ys. IsChanged change slot (list_of lists (get_or symbols i 0)) ys) (sym there) (subst (λ xs. IsChanged change slot xs list) was changed)))
   | inr f ↦ (
     let other : k ≢ i = λ e. not_both (eq-eqb k i e) f in
     let below : k < i = omega arith in
-    let there : list_of after k ≡ list_of news k = ap (λ ls. list_of ls k) is ∙ get_or-append_left news (list ∷ []) k [] (omega arith) in
+    let there : list_of after k ≡ list_of news k = ap (λ ls. list_of ls k) is ∙ get_or_append_left news (list ∷ []) [] k (omega arith) in
     subst (λ ys. IsChanged change slot (list_of lists (get_or symbols k 0)) ys) (sym there) (each k below))
 ]
+
+some_is : {A : Type 0} (x y : A) → Some x ≡ Some y → x ≡ y
+some_is x y e = cc
+
+-- the last of the lists that are left
+pub last_of : (news all : List (List ℕ)) (n len : ℕ) (list : List ℕ) → news ≡ take n all → n ≤ length all → 0 < n → len ≡ length news → Some (get_or news (len - 1) []) ≡ Some list → list ≡ list_of all (n - 1)
+last_of news all n len list is within some long e =
+    let size : length news ≡ n = ap length is ∙ length-take-le n all within in
+    let place : len - 1 ≡ n - 1 = omega arith in
+    sym (some_is (get_or news (len - 1) []) list e) ∙ ap (λ j. get_or news j []) place ∙ ap (λ ls. get_or ls (n - 1) []) is ∙ get_or-take n all (n - 1) [] (omega arith)
+
+pub left_of : (news all after : List (List ℕ)) (n len m : ℕ) → news ≡ take n all → n ≤ length all → len ≡ length news → after ≡ take (len - 1) news → m ≡ n - 1 → after ≡ take m all
+left_of news all after n len m is within long rest e =
+    let size : length news ≡ n = ap length is ∙ length-take-le n all within in
+    let place : len - 1 ≡ m = omega arith in
+    rest ∙ ap (take (len - 1)) is ∙ take-take (len - 1) n all (omega arith) ∙ ap (λ j. take j all) place
