@@ -1,8 +1,10 @@
 //! What slots hold.
-ghost use Rattle.std.specs.Prelude.{◌≡◌, ◌<◌, ◌≤◌, ℕ, Some, None, length, vec_len, vec_capacity};
-ghost use Rattle.ad_slots.specs.Places.{least_free, IsReplaced};
+ghost use Rattle.std.specs.Prelude.{◌≡◌, ◌<◌, ◌≤◌, ℕ, Some, None, length, vec_len, vec_capacity, IfOk};
+ghost use Rattle.ad_slots.specs.Places.{held_symbols, least_free, IsReplaced};
 
 use crate::shared::Entry;
+use ad_base::Memory;
+use std::alloc::Global;
 
 // The least free slot.
 pub(crate) fn first_free(entries: &[Option<Entry>]) -> usize
@@ -37,4 +39,34 @@ pub(crate) fn free(entries: &mut Vec<Option<Entry>>, i: usize)
     ensures len { vec_len entries.new ≡ vec_len entries.old }
 {
     entries[i] = None;
+}
+
+// The symbols of a slot.
+pub(crate) fn symbols_of(entries: &[Option<Entry>], i: usize) -> &[u32]
+    ensures { result.now ≡ held_symbols entries.now i }
+{
+    match entries.get(i) {
+        Some(Some(entry)) => entry.slot().symbols(),
+        _ => &[],
+    }
+}
+
+// The same axioms once more.
+pub(crate) fn share_entries(alloc: Global, entries: &[Option<Entry>]) -> Result<Vec<Option<Entry>>, Memory>
+    ensures { IfOk result (λ copy. copy.items ≡ entries.now) }
+{
+    let mut copy = Vec::with_capacity(alloc, entries.len())?;
+    for entry in entries {
+        copy.push(share_entry(entry)?)?;
+    }
+    Ok(copy)
+}
+
+fn share_entry(entry: &Option<Entry>) -> Result<Option<Entry>, Memory>
+    ensures { IfOk result (λ copy. copy ≡ entry.now) }
+{
+    match entry {
+        Some(entry) => Ok(Some(entry.share()?)),
+        None => Ok(None),
+    }
 }

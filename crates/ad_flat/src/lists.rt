@@ -1,14 +1,15 @@
 //! The lists of slots by symbols.
-ghost use Rattle.std.specs.Prelude.{◌≡◌, ◌<◌, ◌≤◌, ℕ, length, vec_len, IfOk, OnOk, IsTrue};
+ghost use Rattle.std.specs.Prelude.{◌≡◌, ◌<◌, ◌≤◌, ◌+◌, ◌⊎◌, ℕ, length, vec_len, vec_capacity, IfOk, OnOk, IsTrue, IsFalse};
 ghost use Rattle.std.specs.Ordering.{nat_cmp};
 ghost use Rattle.std.specs.List.Sorted.{IsStrictlySortedBy};
 ghost use Rattle.ad_theory.specs.Numbers.{among};
+ghost use Rattle.ad_slots.specs.Rising.{IsWith};
 ghost use Rattle.ad_flat.specs.declared.lists.Change.{Change};
 ghost use Rattle.ad_flat.specs.Changes.{list_of, IsChanged, AreNewLists, AreChanged};
 
 use crate::shared::Numbers;
 use ad_base::Memory;
-use ad_slots::rising::{with, without};
+use ad_slots::rising::{put_into, with, without};
 use std::alloc::Global;
 
 // What becomes of a slot in lists.
@@ -74,4 +75,61 @@ pub(crate) fn grow(alloc: Global, lists: &mut Vec<Numbers>, count: usize) -> Res
         lists.push(Numbers::new(alloc, Vec::new(alloc))?)?;
     }
     Ok(())
+}
+
+// The same lists once more.
+pub(crate) fn share_lists(alloc: Global, lists: &[Numbers]) -> Result<Vec<Numbers>, Memory>
+    ensures { IfOk result (λ copy. copy.items ≡ lists.now) }
+{
+    let mut copy = Vec::with_capacity(alloc, lists.len())?;
+    for list in lists {
+        copy.push(list.share()?)?;
+    }
+    Ok(copy)
+}
+
+// A number above these symbols, and no greater than it has to be.
+pub(crate) fn bound_of(symbols: &[u32]) -> usize
+    ensures above { (s : ℕ) → IsTrue (among symbols.now s) → s < result }
+    ensures least { (bound : ℕ) → ((s : ℕ) → IsTrue (among symbols.now s) → s < bound) → result ≤ bound }
+{
+    let mut bound = 0;
+    for symbol in symbols {
+        bound = above(bound, *symbol);
+    }
+    bound
+}
+
+// The bound, or a number above the symbol where the bound isn't.
+fn above(bound: usize, symbol: u32) -> usize
+    ensures bound { bound ≤ result }
+    ensures symbol { symbol < result }
+    ensures least { (result ≡ bound) ⊎ (result ≡ symbol + 1) }
+{
+    if (symbol as usize) < bound {
+        bound
+    } else {
+        symbol as usize + 1
+    }
+}
+
+// Puts the number into the list if it is to stand there. The list has room.
+pub(crate) fn enter_if(list: &mut Vec<u32>, is_there: bool, n: u32)
+    requires rising { IsStrictlySortedBy nat_cmp list.old.items }
+    requires room { vec_len list.old < vec_capacity list.old }
+    ensures present { IsTrue is_there → IsWith n list.old.items list.new.items }
+    ensures absent { IsFalse is_there → list.new.items ≡ list.old.items }
+{
+    if is_there {
+        put_into(list, n);
+    }
+}
+
+// Another list of the same numbers.
+pub(crate) fn copy_list(alloc: Global, list: &[u32]) -> Result<Vec<u32>, Memory>
+    ensures { IfOk result (λ copy. copy.items ≡ list.now) }
+{
+    let mut copy = Vec::with_capacity(alloc, list.len())?;
+    copy.extend_from_slice(list)?;
+    Ok(copy)
 }
