@@ -1,8 +1,9 @@
 -- Lists of slots by symbols.
-use Rattle.std.proofs.Common.{◌≡◌, ◌≢◌, ◌<◌, ◌≤◌, ◌==◌, ◌||◌, ◌++◌, ◌+◌, ◌-◌, ℕ, zero, suc, Bool, true, false, List, [], ◌∷◌, length, get_or, take, Option, Some, IsTrue, IsFalse, refl, sym, ap, ◌∙◌, subst, inl, inr, arith, eqb-true, eq-eqb}
+use Rattle.std.proofs.Common.{◌≡◌, ◌≢◌, ◌<◌, ◌≤◌, ◌==◌, ◌||◌, ◌⊎◌, ◌++◌, ◌+◌, ◌-◌, ℕ, zero, suc, Bool, true, false, List, [], ◌∷◌, length, get_or, take, Option, Some, IsTrue, IsFalse, refl, sym, ap, ◌∙◌, subst, inl, inr, arith, eqb-true, eq-eqb}
 use Rattle.std.specs.List.{slice_set}
 use Rattle.std.proofs.Math.Seq.{get_or-append_seam}
-use Rattle.std.proofs.lemmas.List.{get_or-set_same, get_or-set_other, get_or_past, get_or_append_left, get_or-take, length-take-le, take-take}
+use Rattle.std.proofs.lemmas.List.{get_or-set_same, get_or-set_other, get_or_past, get_or_append_left, get_or-take, length-take-le, take-take, take_more}
+use Rattle.std.proofs.lemmas.List.Folds.{list_any-append}
 use Rattle.ad_theory.specs.Numbers.{among}
 use Rattle.ad_theory.proofs.Members.{either, not_both, or_left, or_right, or_cases}
 use Rattle.ad_flat.specs.declared.lists.Change.{Change}
@@ -102,3 +103,23 @@ left_of news all after n len m is within long rest e =
     let size : length news ≡ n = ap length is ∙ length-take-le n all within in
     let place : len - 1 ≡ m = omega arith in
     rest ∙ ap (take (len - 1)) is ∙ take-take (len - 1) n all (omega arith) ∙ ap (λ j. take j all) place
+
+-- one more symbol
+pub among_more : (xs : List ℕ) (k s : ℕ) → k < length xs → IsTrue (among (take (k + 1) xs) s) → IsTrue (among (take k xs) s) ⊎ (get_or xs k 0 ≡ s)
+among_more xs k s l t =
+    let split : among (take (k + 1) xs) s ≡ (among (take k xs) s || ((get_or xs k 0 == s) || false)) =
+    ap (λ ys. among ys s) (take_more xs k 0 l) ∙ list_any-append (λ x. x == s) (take k xs) (get_or xs k 0 ∷ []) in
+    elim (or_cases (among (take k xs) s) ((get_or xs k 0 == s) || false) (sym split ∙ t)) [
+      | inl a ↦ inl a
+      | inr b ↦ elim (or_cases (get_or xs k 0 == s) false b) [ inl e ↦ inr (eqb-true (get_or xs k 0) s e) | inr f ↦ absurd (not_both f refl) ]
+    ]
+
+pub bound_more : (xs : List ℕ) (k old new : ℕ) → k < length xs → ((s : ℕ) → IsTrue (among (take k xs) s) → s < old) → old ≤ new → get_or xs k 0 < new → (s : ℕ) → IsTrue (among (take (k + 1) xs) s) → s < new
+bound_more xs k old new l above more here s t = elim (among_more xs k s l t) [
+  | inl a ↦ (let b : s < old = above s a in omega arith)
+  | inr e ↦ subst (λ j. j < new) e here
+]
+
+pub least_more : (xs : List ℕ) (k old new : ℕ) → k < length xs → ((bound : ℕ) → ((s : ℕ) → IsTrue (among xs s) → s < bound) → old ≤ bound) → (new ≡ old) ⊎ (new ≡ get_or xs k 0 + 1) → (bound : ℕ) → ((s : ℕ) → IsTrue (among xs s) → s < bound) → new ≤ bound
+least_more xs k old new l least (inl e) bound above = let b : old ≤ bound = least bound above in omega arith
+least_more xs k old new l least (inr e) bound above = let b : get_or xs k 0 < bound = above (get_or xs k 0) (among_at xs k l) in omega arith

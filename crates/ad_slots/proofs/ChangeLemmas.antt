@@ -16,7 +16,7 @@ same_number i m t = sym (eqb-true i m t)
 another : (i m : ℕ) → IsFalse (i == m) → m ≢ i
 another i m f = λ e. not_both (eq-eqb i m (sym e)) f
 
-nothing_rises : IsStrictlySortedBy nat_cmp []
+pub nothing_rises : IsStrictlySortedBy nat_cmp []
 unfolding IsStrictlySortedBy
 nothing_rises = tt
 
