@@ -1,3 +1,4 @@
 pub mod EntryLemmas
 pub mod ListLemmas
 pub mod SlotLemmas
+pub mod NumberLemmas
