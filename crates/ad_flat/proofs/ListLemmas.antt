@@ -47,10 +47,10 @@ module _ (from : ℕ) (symbols : List ℕ) (news before after : List (List ℕ))
   touched_now k l u = elim (either (get_or symbols k 0 == at)) [
     | inl t ↦ touched_here k (eqb-true (get_or symbols k 0) at t)
     | inr f ↦ (
-      let other : get_or symbols k 0 ≢ at = λ e. not_both (eq-eqb (get_or symbols k 0) at e) f in
-      let elsewhere : k ≢ from = λ e. other (ap (λ j. get_or symbols j 0) e) in
-      let old = put.touched k (omega arith) u in
-      (old.0, old.1, old.2, now_other (get_or symbols k 0) other ∙ old.3))
+        let other : get_or symbols k 0 ≢ at = λ e. not_both (eq-eqb (get_or symbols k 0) at e) f in
+        let elsewhere : k ≢ from = λ e. other (ap (λ j. get_or symbols j 0) e) in
+        let old = put.touched k (omega arith) u in
+        (old.0, old.1, old.2, now_other (get_or symbols k 0) other ∙ old.3))
   ]
 
   pub put_more : ArePut from symbols news before (slice_set after at list)
@@ -62,11 +62,11 @@ module _ (from : ℕ) (symbols : List ℕ) (news before after : List (List ℕ))
 pub all_put : (symbols : List ℕ) (news before after : List (List ℕ)) → ArePut 0 symbols news before after → (change : Change) (slot : ℕ) → AreNewLists change slot symbols before news → AreChanged change slot symbols before after
 all_put symbols news before after put change slot given = record {
   touched = λ s t. (
-    let p = place_of symbols s t in
-    let m = put.touched p.0 (omega arith) p.1 in
-    let there : list_of after s ≡ list_of news m.0 = ap (list_of after) (sym p.2) ∙ m.3 in
-    let old : list_of before (get_or symbols m.0 0) ≡ list_of before s = ap (list_of before) (m.2 ∙ p.2) in
-    subst (λ xs. IsChanged change slot xs (list_of after s)) old (subst (λ ys. IsChanged change slot (list_of before (get_or symbols m.0 0)) ys) (sym there) (given.each m.0 m.1)));
+      let p = place_of symbols s t in
+      let m = put.touched p.0 (omega arith) p.1 in
+      let there : list_of after s ≡ list_of news m.0 = ap (list_of after) (sym p.2) ∙ m.3 in
+      let old : list_of before (get_or symbols m.0 0) ≡ list_of before s = ap (list_of before) (m.2 ∙ p.2) in
+      subst (λ xs. IsChanged change slot xs (list_of after s)) old (subst (λ ys. IsChanged change slot (list_of before (get_or symbols m.0 0)) ys) (sym there) (given.each m.0 m.1)));
   others = λ s f. put.others s (λ k l u e. not_both (subst (λ j. IsTrue (among symbols j)) e (among_at symbols k u)) f);
 }
 
@@ -77,15 +77,15 @@ pub new_more : (change : Change) (slot : ℕ) (symbols : List ℕ) (lists news a
     → (k : ℕ) → k < i + 1 → IsChanged change slot (list_of lists (get_or symbols k 0)) (list_of after k)
 new_more change slot symbols lists news after i old list long is was changed each k l = elim (either (k == i)) [
   | inl t ↦ (
-    let e : i ≡ k = sym (eqb-true k i t) in
-    let there : list_of after i ≡ list = ap (λ ls. list_of ls i) is ∙ ap (list_of (news ++ list ∷ [])) (sym long) ∙ get_or-append_seam news list [] [] in
-    subst (λ j. IsChanged change slot (list_of lists (get_or symbols j 0)) (list_of after j)) e
-    (subst (λ ys. IsChanged change slot (list_of lists (get_or symbols i 0)) ys) (sym there) (subst (λ xs. IsChanged change slot xs list) was changed)))
+      let e : i ≡ k = sym (eqb-true k i t) in
+      let there : list_of after i ≡ list = ap (λ ls. list_of ls i) is ∙ ap (list_of (news ++ list ∷ [])) (sym long) ∙ get_or-append_seam news list [] [] in
+      subst (λ j. IsChanged change slot (list_of lists (get_or symbols j 0)) (list_of after j)) e
+      (subst (λ ys. IsChanged change slot (list_of lists (get_or symbols i 0)) ys) (sym there) (subst (λ xs. IsChanged change slot xs list) was changed)))
   | inr f ↦ (
-    let other : k ≢ i = λ e. not_both (eq-eqb k i e) f in
-    let below : k < i = omega arith in
-    let there : list_of after k ≡ list_of news k = ap (λ ls. list_of ls k) is ∙ get_or_append_left news (list ∷ []) [] k (omega arith) in
-    subst (λ ys. IsChanged change slot (list_of lists (get_or symbols k 0)) ys) (sym there) (each k below))
+      let other : k ≢ i = λ e. not_both (eq-eqb k i e) f in
+      let below : k < i = omega arith in
+      let there : list_of after k ≡ list_of news k = ap (λ ls. list_of ls k) is ∙ get_or_append_left news (list ∷ []) [] k (omega arith) in
+      subst (λ ys. IsChanged change slot (list_of lists (get_or symbols k 0)) ys) (sym there) (each k below))
 ]
 
 some_is : {A : Type 0} (x y : A) → Some x ≡ Some y → x ≡ y

@@ -1,5 +1,5 @@
 -- The numbers of the entities of a list.
-use Rattle.std.proofs.Common.{◌≡◌, ◌<◌, ◌==◌, ◌||◌, ◌++◌, ℕ, Bool, true, false, IsTrue, IsFalse, List, [], ◌∷◌, Option, None, Some, refl, sym, ap, ◌∙◌, subst, inl, inr, eqb-true, eq-eqb}
+use Rattle.std.proofs.Common.{◌≡◌, ◌<◌, ◌==◌, ◌||◌, ◌++◌, ℕ, Bool, true, false, IsTrue, IsFalse, List, [], ◌∷◌, Option, None, Some, Result, Ok, Err, IfOk, refl, sym, ap, ◌∙◌, subst, inl, inr, eqb-true, eq-eqb}
 use Rattle.std.proofs.lemmas.List.Folds.{list_any-append}
 use Rattle.ad_theory.specs.Numbers.{among}
 use Rattle.ad_theory.proofs.Members.{either, not_both, or_left, or_right, or_cases}
@@ -43,3 +43,8 @@ module _ (number : Entity → Option ℕ) where
   same_numbers es fs same n = same_truth (among (numbers_of number es) n) (among (numbers_of number fs) n)
       (λ t. let r = entity_of es n t in number_among fs r.0 n (sym (same r.0) ∙ r.1) r.2)
       (λ t. let r = entity_of fs n t in number_among es r.0 n (same r.0 ∙ r.1) r.2)
+
+-- what holds of a value that was found holds of it in other words
+pub found_more : {A E : Type 0} (r : Result A E) (P Q : A → Type 0) → ((x : A) → P x → Q x) → IfOk r P → IfOk r Q
+found_more (Ok x) P Q more p = more x p
+found_more (Err e) P Q more p = p

@@ -52,7 +52,10 @@ pub(crate) fn symbols_of(entries: &[Option<Entry>], i: usize) -> &[u32]
 }
 
 // The same axioms once more.
-pub(crate) fn share_entries(alloc: Global, entries: &[Option<Entry>]) -> Result<Vec<Option<Entry>>, Memory>
+pub(crate) fn share_entries(
+    alloc: Global,
+    entries: &[Option<Entry>],
+) -> Result<Vec<Option<Entry>>, Memory>
     ensures { IfOk result (λ copy. copy.items ≡ entries.now) }
 {
     let mut copy = Vec::with_capacity(alloc, entries.len())?;

@@ -62,7 +62,8 @@ impl FlatUniverse {
         let is_bottom_global = !slot.is_local(Side::Bottom, &nothing);
         let is_top_global = !slot.is_local(Side::Top, &nothing);
         let i = self.slots.next() as u32;
-        self.slots.put(alloc, i, slot, is_bottom_global, is_top_global)?;
+        self.slots
+            .put(alloc, i, slot, is_bottom_global, is_top_global)?;
         Ok(i)
     }
 

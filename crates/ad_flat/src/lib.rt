@@ -3,7 +3,6 @@
 
 pub use flat::FlatUniverse;
 
-
 mod axioms;
 mod entries;
 mod flat;

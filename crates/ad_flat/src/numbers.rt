@@ -11,7 +11,11 @@ use ad_tree::{Entity, Naming};
 use std::alloc::Global;
 
 // The numbers of those of the entities that have one, rising, each once.
-pub(crate) fn numbers_of<N: Naming>(alloc: Global, entities: &[Entity], names: &N) -> Result<Vec<u32>, Memory>
+pub(crate) fn numbers_of<N: Naming>(
+    alloc: Global,
+    entities: &[Entity],
+    names: &N,
+) -> Result<Vec<u32>, Memory>
     ensures rising { IfOk result (λ list. IsStrictlySortedBy nat_cmp list.items) }
     ensures members { IfOk result (λ list. (n : ℕ) → among list.items n ≡ among (numbers_of (N.number_of names.now) entities.now) n) }
 {

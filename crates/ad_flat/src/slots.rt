@@ -8,7 +8,9 @@ ghost use Rattle.ad_slots.specs.Places.{slot_at, is_held, held_slots, held_symbo
 ghost use Rattle.ad_flat.specs.Changes.{list_of};
 
 use crate::entries::{first_free, free, hold, share_entries, symbols_of};
-use crate::lists::{Change, bound_of, copy_list, enter_if, grow, new_lists, put_lists, share_lists};
+use crate::lists::{
+    Change, bound_of, copy_list, enter_if, grow, new_lists, put_lists, share_lists,
+};
 use crate::shared::{Entry, Numbers};
 use ad_base::{Limits, Memory, Side};
 use ad_slots::Slot;
@@ -104,7 +106,13 @@ impl Slots {
         ensures symbols { self.new.symbols ≡ self.old.symbols }
     {
         self.reserve(alloc, slot.symbols())?;
-        let news = new_lists(alloc, self.occurrences.as_slice(), slot.symbols(), i, Change::Comes)?;
+        let news = new_lists(
+            alloc,
+            self.occurrences.as_slice(),
+            slot.symbols(),
+            i,
+            Change::Comes,
+        )?;
         let entry = Entry::new(alloc, slot)?;
         put_lists(&mut self.occurrences, entry.slot().symbols(), news);
         enter_if(&mut self.bottom, is_bottom_global, i);
@@ -122,7 +130,13 @@ impl Slots {
         ensures symbols { self.new.symbols ≡ self.old.symbols }
     {
         let symbols = symbols_of(self.entries.as_slice(), i as usize);
-        let news = new_lists(alloc, self.occurrences.as_slice(), symbols, i, Change::Leaves)?;
+        let news = new_lists(
+            alloc,
+            self.occurrences.as_slice(),
+            symbols,
+            i,
+            Change::Leaves,
+        )?;
         put_lists(&mut self.occurrences, symbols, news);
         drop_from(&mut self.bottom, i);
         drop_from(&mut self.top, i);

@@ -22,7 +22,11 @@ loop-done-preserved c =
     let long : vec_len c.loop-done.news ≡ length news = omega (arith, c.loop-done.news.ok) in
     let size : length news ≡ n = ap length c.loop-done.invariant.left ∙ length-take-le n all fits in
     let place : get_or symbols at 0 < length c.loop-done.lists.items = omega (
-      arith, c.requires.below _ (among_at symbols at (omega (arith, c.loop-done-test.true))), c.loop-done.invariant.len, c.loop-done.lists.ok) in
+      arith,
+      c.requires.below _ (among_at symbols at (omega (arith, c.loop-done-test.true))),
+      c.loop-done.invariant.len,
+      c.loop-done.lists.ok,
+    ) in
     let last = last_of news all n (vec_len c.loop-done.news) c.unwrap-list.result c.loop-done.invariant.left fits some long (sym (c.pop.ensures.value [] (omega (arith, long, size, some))) ∙ c.unwrap-list.ensures) in
     record {
       len = c.loop-done.invariant.len;
