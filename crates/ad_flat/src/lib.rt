@@ -8,5 +8,6 @@ mod entries;
 mod flat;
 mod lists;
 mod numbers;
+mod rows;
 mod shared;
 mod slots;
