@@ -2,3 +2,4 @@ pub mod EntryLemmas
 pub mod ListLemmas
 pub mod SlotLemmas
 pub mod NumberLemmas
+pub mod AddingLemmas
