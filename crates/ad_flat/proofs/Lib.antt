@@ -3,3 +3,4 @@ pub mod ListLemmas
 pub mod SlotLemmas
 pub mod NumberLemmas
 pub mod AddingLemmas
+pub mod Crossing
