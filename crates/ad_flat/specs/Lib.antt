@@ -1,3 +1,4 @@
 pub mod Changes
 pub mod Holds
 pub mod Laws
+pub mod Trees
