@@ -1,5 +1,5 @@
 -- Slots name the axioms that they hold, and numbers their entities.
-use Rattle.std.proofs.Common.{◌≡◌, ℕ, ◌==◌, Bool, true, false, ◌&&◌, IsTrue, List, [], ◌∷◌, Option, None, Some, is_some, refl, sym, ap, ◌∙◌, subst, inl, inr, eqb-true, eq-eqb}
+use Rattle.std.proofs.Common.{◌≡◌, ℕ, ◌==◌, Bool, true, false, ◌&&◌, IsTrue, List, [], ◌∷◌, Option, None, Some, is_some, IsSome, refl, sym, ap, ◌∙◌, subst, inl, inr, eqb-true, eq-eqb}
 use Rattle.std.specs.List.{AllZip, Contains, filter, list_any, zip}
 use Rattle.ad_base.specs.declared.limits.Side.{Side}
 use Rattle.ad_entity.specs.Entities.{same_entity}
@@ -145,6 +145,13 @@ module _ (number : Entity → Option ℕ) (slots : List (Option Held)) (places :
   held_at : (i : ℕ) (a : Noted) → names i a → Holds number slots i a.axiom
   held_at i a h = pair_holds _ places axioms placed.held i a h
 
+  some_value : (o : Option ℕ) → IsSome o → (n : ℕ) × (o ≡ Some n)
+  some_value None s = absurd (not_both s refl)
+  some_value (Some n) s = (n, refl)
+
+  number_for : (e : Entity) → IsTrue (in_signatures axioms e) → (n : ℕ) × (number e ≡ Some n)
+  number_for e t = some_value (number e) (placed.numbered e t)
+
   in_all : (i : ℕ) (a : Noted) (e : Entity) → names i a → IsTrue (in_signature a.axiom e) → IsTrue (in_signatures axioms e)
   in_all i a e h t = any_of_has (λ a. in_signature a.axiom e) axioms a (axiom_of_pair _ places axioms placed.held i a h) t
 
@@ -165,11 +172,11 @@ module _ (number : Entity → Option ℕ) (slots : List (Option Held)) (places :
           (r.0, (in_all i a r.0 h r.1, r.2), r.1);
       sig_from = λ i a e h t.
           let o = held_at i a h in
-          let r = placed.numbered e (in_all i a e h t) in
+          let r = number_for e (in_all i a e h t) in
           (r.0, (in_all i a e h t, r.1), subst (λ s. IsTrue (among (symbols_at s) r.0)) (sym o.1) (o.2.symbols r.0 ∙ number_among number (occurrences a.axiom) e r.0 t r.1));
       local_to = λ i a S T h less l.
           (antitone side).shrinks T (λ e. is_seen S (number e)) a
-          (λ e s t. let r = placed.numbered e (in_all i a e h s) in subst (λ o. IsTrue (is_seen S o)) (sym r.1) (less r.0 e (in_all i a e h s, r.1) t))
+          (λ e s t. let r = number_for e (in_all i a e h s) in subst (λ o. IsTrue (is_seen S o)) (sym r.1) (less r.0 e (in_all i a e h s, r.1) t))
           (sym (local_at i a S (held_at i a h)) ∙ l);
       local_from = λ i a S T h less l.
           local_at i a S (held_at i a h) ∙ (antitone side).shrinks (λ e. is_seen S (number e)) T a

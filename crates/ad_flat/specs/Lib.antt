@@ -1,4 +1,5 @@
 pub mod Changes
 pub mod Holds
 pub mod Laws
+pub mod Refused
 pub mod Trees

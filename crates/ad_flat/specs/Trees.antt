@@ -1,5 +1,5 @@
 -- The axioms and entities behind the numbers of slots.
-use Rattle.std.specs.Prelude.{◌≡◌, ℕ, Bool, List, map, Option, Some, IsTrue}
+use Rattle.std.specs.Prelude.{◌≡◌, ℕ, Bool, List, map, Option, Some, IsSome, IsTrue}
 use Rattle.std.specs.List.{AllZip, filter, list_any, zip}
 use Rattle.ad_locality.specs.Signature.{in_signature}
 use Rattle.ad_tree.specs.declared.axioms.Noted.{Noted}
@@ -18,7 +18,7 @@ in_signatures axioms e = list_any (λ a. in_signature a.axiom e) axioms
 pub record ArePlaced (number : Entity → Option ℕ) (slots : List (Option Held)) (places : List ℕ) (axioms : List Noted) : Type 0 where
   pub held : AllZip (λ i a. Holds number slots i a.axiom) places axioms
   pub live : (i : ℕ) → IsTrue (is_held slots i) → IsTrue (among places i)
-  pub numbered : (e : Entity) → IsTrue (in_signatures axioms e) → (n : ℕ) × (number e ≡ Some n)
+  pub numbered : (e : Entity) → IsTrue (in_signatures axioms e) → IsSome (number e)
   pub one_to_one : (e f : Entity) (n : ℕ) → IsTrue (in_signatures axioms e) → IsTrue (in_signatures axioms f) → number e ≡ Some n → number f ≡ Some n → e ≡ f
 
 -- of the entities in the axioms' signatures, the sets have the same, the one by their numbers
