@@ -4,3 +4,6 @@ pub mod SlotLemmas
 pub mod NumberLemmas
 pub mod AddingLemmas
 pub mod Crossing
+pub mod CarryLemmas
+pub mod TreeLemmas
+pub mod KindOfTreesLemmas

@@ -1,15 +1,15 @@
 -- The numbers of the entities of a list.
-use Rattle.std.proofs.Common.{◌≡◌, ◌<◌, ◌==◌, ◌||◌, ◌++◌, ℕ, Bool, true, false, IsTrue, IsFalse, List, [], ◌∷◌, Option, None, Some, Result, Ok, Err, IfOk, refl, sym, ap, ◌∙◌, subst, inl, inr, eqb-true, eq-eqb}
+use Rattle.std.proofs.Common.{◌≡◌, ◌==◌, ◌||◌, ℕ, Bool, true, false, IsTrue, List, [], ◌∷◌, Option, None, Some, Result, Ok, Err, IfOk, refl, sym, ap, ◌∙◌, subst, inl, inr, eqb-true, eq-eqb}
 use Rattle.std.proofs.lemmas.List.Folds.{list_any-append}
 use Rattle.ad_theory.specs.Numbers.{among}
-use Rattle.ad_theory.proofs.Members.{either, not_both, or_left, or_right, or_cases}
+use Rattle.ad_theory.proofs.Members.{not_both, or_left, or_right, or_cases}
 use Rattle.ad_entity.specs.Entities.{same_entity, has_entity}
 use Rattle.ad_entity.specs.declared.entities.Entity.{Entity}
 use Rattle.ad_syntax_laws.proofs.EntityLemmas.{same_entity_is, same_entity_refl}
 use Rattle.ad_codes.specs.Laws.{number_list, numbers_of}
 
 module _ (number : Entity → Option ℕ) where
-  at_number : (o : Option ℕ) (n : ℕ) → IsTrue (among (number_list o) n) → o ≡ Some n
+  pub at_number : (o : Option ℕ) (n : ℕ) → IsTrue (among (number_list o) n) → o ≡ Some n
   at_number None n t = absurd (not_both t refl)
   at_number (Some m) n t = elim (or_cases (m == n) false t) [ inl e ↦ ap Some (eqb-true m n e) | inr f ↦ absurd (not_both f refl) ]
 
@@ -23,7 +23,7 @@ module _ (number : Entity → Option ℕ) where
     | inr b ↦ (let r = entity_of es n b in (r.0, or_right (same_entity x r.0) (has_entity es r.0) r.1, r.2))
   ]
 
-  number_there : (o : Option ℕ) (n : ℕ) → o ≡ Some n → IsTrue (among (number_list o) n)
+  pub number_there : (o : Option ℕ) (n : ℕ) → o ≡ Some n → IsTrue (among (number_list o) n)
   number_there o n e = subst (λ p. IsTrue (among (number_list p) n)) (sym e) (or_left (n == n) false (eq-eqb n n refl))
 
   pub number_among : (es : List Entity) (e : Entity) (n : ℕ) → IsTrue (has_entity es e) → number e ≡ Some n → IsTrue (among (numbers_of number es) n)

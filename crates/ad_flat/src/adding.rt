@@ -1,10 +1,11 @@
-ghost use Rattle.std.specs.Prelude.{◌≡◌, ◌≢◌, ◌<◌, ◌≤◌, ℕ, Some, IfOk, OnErr, IsTrue, IsFalse};
+ghost use Rattle.std.specs.Prelude.{◌≡◌, ◌≢◌, ◌<◌, ◌≤◌, ℕ, Some, IsSome, IfOk, IfErr, OnOk, OnErr, IsTrue, IsFalse};
 ghost use Rattle.ad_entity.specs.Entities.{has_entity};
 ghost use Rattle.ad_entity.specs.declared.entities.Entity.{Entity};
 ghost use Rattle.ad_locality.specs.Signature.{in_signature};
 ghost use Rattle.ad_signature.specs.Numbering.{number_in};
 ghost use Rattle.ad_slots.specs.Places.{slot_at, least_free};
 ghost use Rattle.ad_flat.specs.Holds.{Holds};
+ghost use Rattle.ad_flat.specs.Refused.{IsRefusedForOneOf};
 
 use crate::flat::FlatUniverse;
 use ad_base::Memory;
@@ -14,6 +15,8 @@ use std::alloc::Global;
 
 // Enters each of these entities, and no others.
 fn enter_all(alloc: Global, symbols: &mut Symbols, entities: &[Entity]) -> Result<(), SymbolRefused>
+    ensures named { OnOk result ((e : Entity) → IsTrue (has_entity entities.now e) → IsSome (number_in symbols.new.names e)) }
+    ensures refused { IfErr result (IsRefusedForOneOf (has_entity entities.now) symbols.old.limit symbols.new.names) }
     ensures only { (e : Entity) → IsFalse (has_entity entities.now e) → number_in symbols.new.names e ≡ number_in symbols.old.names e }
     ensures kept { (e : Entity) (n : ℕ) → number_in symbols.old.names e ≡ Some n → number_in symbols.new.names e ≡ Some n }
     ensures limit { symbols.new.limit ≡ symbols.old.limit }
@@ -38,6 +41,8 @@ pub fn add(
     ensures held { IfOk result (λ i. Holds (number_in symbols.new.names) universe.new.slots.entries.items i noted.now.axiom) }
     ensures others { IfOk result (λ i. (j : ℕ) → j ≢ i → slot_at universe.new.slots.entries.items j ≡ slot_at universe.old.slots.entries.items j) }
     ensures err { OnErr result (universe.new.slots.entries.items ≡ universe.old.slots.entries.items) }
+    ensures named { OnOk result ((e : Entity) → IsTrue (in_signature noted.now.axiom e) → IsSome (number_in symbols.new.names e)) }
+    ensures refused { IfErr result (IsRefusedForOneOf (in_signature noted.now.axiom) symbols.old.limit symbols.new.names) }
     ensures only { (e : Entity) → IsFalse (in_signature noted.now.axiom e) → number_in symbols.new.names e ≡ number_in symbols.old.names e }
     ensures kept { (e : Entity) (n : ℕ) → number_in symbols.old.names e ≡ Some n → number_in symbols.new.names e ≡ Some n }
     ensures limit { symbols.new.limit ≡ symbols.old.limit }

@@ -3,11 +3,13 @@
 
 pub use adding::add;
 pub use flat::FlatUniverse;
+pub use laws::modules_of_trees;
 
 mod adding;
 mod axioms;
 mod entries;
 mod flat;
+mod laws;
 mod lists;
 mod numbers;
 mod rows;
