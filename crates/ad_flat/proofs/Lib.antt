@@ -1,10 +1,4 @@
-pub mod DistinctLemmas
-pub mod NumberLemmas
+pub mod EntryLemmas
 pub mod ListLemmas
 pub mod SlotLemmas
-pub mod AddingLemmas
-pub mod CarryLemmas
-pub mod TreeLemmas
-pub mod KindOfTreesLemmas
-pub mod AlikeLemmas
-pub mod Crossing
+pub mod NumberLemmas

@@ -1,6 +1,3 @@
-pub mod Distinct
-pub mod Held
-pub mod Places
-pub mod Numbering
-pub mod Trees
+pub mod Changes
+pub mod Holds
 pub mod Laws
