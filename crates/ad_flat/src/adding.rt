@@ -1,0 +1,56 @@
+ghost use Rattle.std.specs.Prelude.{◌≡◌, ◌≢◌, ◌<◌, ◌≤◌, ℕ, Some, IfOk, OnErr, IsTrue, IsFalse};
+ghost use Rattle.ad_entity.specs.Entities.{has_entity};
+ghost use Rattle.ad_entity.specs.declared.entities.Entity.{Entity};
+ghost use Rattle.ad_locality.specs.Signature.{in_signature};
+ghost use Rattle.ad_signature.specs.Numbering.{number_in};
+ghost use Rattle.ad_slots.specs.Places.{slot_at, least_free};
+ghost use Rattle.ad_flat.specs.Holds.{Holds};
+
+use crate::flat::FlatUniverse;
+use ad_base::Memory;
+use ad_signature::{SymbolRefused, Symbols, signature};
+use ad_tree::{Entity, Noted};
+use std::alloc::Global;
+
+// Enters each of these entities, and no others.
+fn enter_all(alloc: Global, symbols: &mut Symbols, entities: &[Entity]) -> Result<(), SymbolRefused>
+    ensures only { (e : Entity) → IsFalse (has_entity entities.now e) → number_in symbols.new.names e ≡ number_in symbols.old.names e }
+    ensures kept { (e : Entity) (n : ℕ) → number_in symbols.old.names e ≡ Some n → number_in symbols.new.names e ≡ Some n }
+    ensures limit { symbols.new.limit ≡ symbols.old.limit }
+{
+    for entity in entities {
+        symbols.enter(alloc, entity)?;
+    }
+    Ok(())
+}
+
+/// Enters the entities of an axiom, and puts it with their numbers into the least free slot. After a refusal some of its
+/// entities may have been entered.
+pub fn add(
+    alloc: Global,
+    universe: &mut FlatUniverse,
+    symbols: &mut Symbols,
+    noted: &Noted,
+) -> Result<u32, SymbolRefused>
+    requires room { least_free universe.old.slots.entries.items < universe.old.slots.most }
+    requires limit { symbols.old.limit ≤ universe.old.slots.symbols }
+    ensures next { IfOk result (λ i. i ≡ least_free universe.old.slots.entries.items) }
+    ensures held { IfOk result (λ i. Holds (number_in symbols.new.names) universe.new.slots.entries.items i noted.now.axiom) }
+    ensures others { IfOk result (λ i. (j : ℕ) → j ≢ i → slot_at universe.new.slots.entries.items j ≡ slot_at universe.old.slots.entries.items j) }
+    ensures err { OnErr result (universe.new.slots.entries.items ≡ universe.old.slots.entries.items) }
+    ensures only { (e : Entity) → IsFalse (in_signature noted.now.axiom e) → number_in symbols.new.names e ≡ number_in symbols.old.names e }
+    ensures kept { (e : Entity) (n : ℕ) → number_in symbols.old.names e ≡ Some n → number_in symbols.new.names e ≡ Some n }
+    ensures limit { symbols.new.limit ≡ symbols.old.limit }
+    ensures slots { universe.new.slots.most ≡ universe.old.slots.most }
+    ensures symbols { universe.new.slots.symbols ≡ universe.old.slots.symbols }
+{
+    let entities = match signature(alloc, noted) {
+        Ok(entities) => entities,
+        Err(Memory) => return Err(SymbolRefused::Memory),
+    };
+    enter_all(alloc, symbols, entities.entities())?;
+    match universe.insert(alloc, noted, symbols) {
+        Ok(slot) => Ok(slot),
+        Err(Memory) => Err(SymbolRefused::Memory),
+    }
+}
