@@ -1,4 +1,4 @@
-pub mod EntryLemmas
+pub mod FreeLemmas
 pub mod ListLemmas
 pub mod SlotLemmas
 pub mod NumberLemmas

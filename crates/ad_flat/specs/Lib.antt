@@ -1,3 +1,4 @@
 pub mod Changes
+pub mod Free
 pub mod Holds
 pub mod Laws

@@ -1,22 +1,10 @@
 //! What slots hold.
 ghost use Rattle.std.specs.Prelude.{◌≡◌, ◌<◌, ◌≤◌, ℕ, Some, None, length, vec_len, vec_capacity, IfOk};
-ghost use Rattle.ad_slots.specs.Places.{held_symbols, least_free, IsReplaced};
+ghost use Rattle.ad_slots.specs.Places.{held_symbols, IsReplaced};
 
 use crate::shared::Entry;
 use ad_base::Memory;
 use std::alloc::Global;
-
-// The least free slot.
-pub(crate) fn first_free(entries: &[Option<Entry>]) -> usize
-    ensures { result ≡ least_free entries.now }
-{
-    for i in 0..entries.len() {
-        if entries[i].is_none() {
-            return i;
-        }
-    }
-    entries.len()
-}
 
 // Puts an axiom into a slot. There is room for one more.
 pub(crate) fn hold(entries: &mut Vec<Option<Entry>>, i: usize, entry: Entry)

@@ -21,16 +21,16 @@ pub struct FlatUniverse {
 }
 
 impl FlatUniverse {
-    /// The universe without axioms, for as many axioms and entities as the limits allow. It takes no memory.
-    pub fn empty(alloc: Global, limits: &Limits) -> FlatUniverse
+    /// The universe without axioms, for as many axioms and entities as the limits allow.
+    pub fn empty(alloc: Global, limits: &Limits) -> Result<FlatUniverse, Memory>
         requires { AreWithinStandard limits.now }
-        ensures slots { result.slots.most ≡ limits.now.axioms }
-        ensures symbols { result.slots.symbols ≡ limits.now.entities }
-        ensures empty { result.slots.entries.items ≡ [] }
+        ensures slots { IfOk result (λ universe. universe.slots.most ≡ limits.now.axioms) }
+        ensures symbols { IfOk result (λ universe. universe.slots.symbols ≡ limits.now.entities) }
+        ensures empty { IfOk result (λ universe. universe.slots.entries.items ≡ []) }
     {
-        FlatUniverse {
-            slots: Slots::new(alloc, limits),
-        }
+        Ok(FlatUniverse {
+            slots: Slots::new(alloc, limits)?,
+        })
     }
 
     /// The least free slot; if it is past all slots that there are, none is free.

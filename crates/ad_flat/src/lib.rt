@@ -10,5 +10,6 @@ mod entries;
 mod flat;
 mod lists;
 mod numbers;
+mod rows;
 mod shared;
 mod slots;

@@ -6,13 +6,16 @@ ghost use Rattle.ad_theory.specs.Numbers.{among};
 ghost use Rattle.ad_slots.specs.Held.{IsCovered};
 ghost use Rattle.ad_slots.specs.Places.{slot_at, is_held, held_slots, held_symbols, held_globals, is_global, least_free, AreCovered, AreHeldBelow, IsReplaced};
 ghost use Rattle.ad_flat.specs.Changes.{list_of};
+ghost use Rattle.ad_flat.specs.Free.{AreFree};
 
-use crate::entries::{first_free, free, hold, share_entries, symbols_of};
+use crate::entries::{free, hold, share_entries, symbols_of};
 use crate::lists::{
     Change, bound_of, copy_list, enter_if, grow, new_lists, put_lists, share_lists,
 };
+use crate::rows::{copy_row, full_row};
 use crate::shared::{Entry, Numbers};
 use ad_base::{Limits, Memory, Side};
+use ad_bits::Row;
 use ad_slots::Slot;
 use ad_slots::rising::drop_from;
 use std::alloc::Global;
@@ -25,6 +28,8 @@ pub(crate) struct Slots {
     symbols: u32,
     // what each slot holds; those past the end are free
     entries: Vec<Option<Entry>>,
+    // the free slots
+    free: Row,
     // for each symbol the slots in whose signatures it stands; those past the end stand in none
     occurrences: Vec<Numbers>,
     // the slots that are not local for nothing, on each side
@@ -33,6 +38,7 @@ pub(crate) struct Slots {
     ghost few_slots: { most ≤ 65536 },
     ghost few_symbols: { symbols ≤ 65536 },
     ghost within: { vec_len entries ≤ most },
+    ghost are_free: { AreFree most entries.items free },
     ghost lists_within: { vec_len occurrences ≤ symbols },
     ghost below: { AreHeldBelow (vec_len occurrences) entries.items },
     ghost covered: { AreCovered entries.items },
@@ -42,29 +48,34 @@ pub(crate) struct Slots {
 }
 
 impl Slots {
-    // All slots are free. It takes no memory.
-    pub(crate) fn new(alloc: Global, limits: &Limits) -> Slots
+    // All slots are free.
+    pub(crate) fn new(alloc: Global, limits: &Limits) -> Result<Slots, Memory>
         requires axioms { limits.now.axioms ≤ 65536 }
         requires entities { limits.now.entities ≤ 65536 }
-        ensures most { result.most ≡ limits.now.axioms }
-        ensures symbols { result.symbols ≡ limits.now.entities }
-        ensures empty { result.entries.items ≡ [] }
+        ensures most { IfOk result (λ slots. slots.most ≡ limits.now.axioms) }
+        ensures symbols { IfOk result (λ slots. slots.symbols ≡ limits.now.entities) }
+        ensures empty { IfOk result (λ slots. slots.entries.items ≡ []) }
     {
-        Slots {
+        let free = full_row(alloc, limits.axioms)?;
+        Ok(Slots {
             most: limits.axioms,
             symbols: limits.entities,
             entries: Vec::new(alloc),
+            free,
             occurrences: Vec::new(alloc),
             bottom: Vec::new(alloc),
             top: Vec::new(alloc),
-        }
+        })
     }
 
     // The least free slot.
     pub(crate) fn next(&self) -> usize
         ensures { result ≡ least_free self.now.entries.items }
     {
-        first_free(self.entries.as_slice())
+        match self.free.next(0) {
+            Some(i) => i as usize,
+            None => self.most as usize,
+        }
     }
 
     // Takes the memory that one more axiom with these symbols needs, but for its lists.
@@ -118,6 +129,7 @@ impl Slots {
         enter_if(&mut self.bottom, is_bottom_global, i);
         enter_if(&mut self.top, is_top_global, i);
         hold(&mut self.entries, i as usize, entry);
+        self.free.unset(i);
         Ok(())
     }
 
@@ -141,6 +153,7 @@ impl Slots {
         drop_from(&mut self.bottom, i);
         drop_from(&mut self.top, i);
         free(&mut self.entries, i as usize);
+        self.free.set(i);
         Ok(())
     }
 
@@ -151,11 +164,12 @@ impl Slots {
         ensures symbols { IfOk result (λ copy. copy.symbols ≡ self.now.symbols) }
     {
         let (bottom, top) = self.copy_globals(alloc)?;
-        let occurrences = share_lists(alloc, self.occurrences.as_slice())?;
+        let (occurrences, free) = self.copy_places(alloc)?;
         Ok(Slots {
             most: self.most,
             symbols: self.symbols,
             entries: share_entries(alloc, self.entries.as_slice())?,
+            free,
             occurrences,
             bottom,
             top,
@@ -168,6 +182,14 @@ impl Slots {
     {
         let bottom = copy_list(alloc, self.bottom.as_slice())?;
         Ok((bottom, copy_list(alloc, self.top.as_slice())?))
+    }
+
+    fn copy_places(&self, alloc: Global) -> Result<(Vec<Numbers>, Row), Memory>
+        ensures occurrences { IfOk result (λ copy. copy.0.items ≡ self.now.occurrences.items) }
+        ensures free { IfOk result (λ copy. copy.1 ≡ self.now.free) }
+    {
+        let occurrences = share_lists(alloc, self.occurrences.as_slice())?;
+        Ok((occurrences, copy_row(alloc, &self.free)?))
     }
 
     // How many slots and symbols there may be.
