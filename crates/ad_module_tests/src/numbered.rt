@@ -1,5 +1,5 @@
 //! Ontologies as numbered axioms, and their modules by the queue and by alternation.
-ghost use Rattle.std.specs.Prelude.{◌≡◌, IfOk, length};
+ghost use Rattle.std.specs.Prelude.{◌≡◌, ◌<◌, IfOk, length};
 ghost use Rattle.ad_base.specs.Limits.{AreWithinStandard};
 
 use ad_base::{Kind, Limits, Memory, Side};
@@ -8,7 +8,7 @@ use ad_extract::Queue;
 use ad_flat::{FlatUniverse, add};
 use ad_signature::Symbols;
 use ad_star::Starred;
-use ad_theory::{Extractor, Half, Tally, empty_row};
+use ad_theory::{Extractor, Half, Tally, Universe, empty_row};
 use ad_tree::{Naming, Noted, Op, Seed};
 use std::alloc::Global;
 use std::hash::RandomState;
@@ -91,6 +91,40 @@ impl Numbered {
             Err("many axioms")?;
         }
         Ok(add(alloc, &mut self.universe, &mut self.symbols, noted)?)
+    }
+
+    /// Removes the axiom with this number, where there is one.
+    pub(crate) fn remove(&mut self, alloc: Global, slot: u32) -> Result<(), Memory> {
+        if slot < MOST && self.universe.live(slot) {
+            self.universe.remove(alloc, slot)?;
+        }
+        Ok(())
+    }
+
+    /// Begins again without axioms. Entities keep their numbers.
+    pub(crate) fn clear(&mut self, alloc: Global) -> Result<(), Memory> {
+        self.universe = FlatUniverse::empty(alloc, &limits())?;
+        Ok(())
+    }
+
+    /// Whether this slot holds the same symbols in both, and this symbol stands in the same slots.
+    fn is_alike_at(&self, other: &Numbered, i: u32) -> bool
+        requires { i < MOST }
+    {
+        self.universe.live(i) == other.universe.live(i)
+            && self.universe.signature(i) == other.universe.signature(i)
+            && self.universe.occurs(i) == other.universe.occurs(i)
+    }
+
+    /// Whether both hold the same symbols in the same slots, of which the same are global.
+    pub(crate) fn is_alike(&self, other: &Numbered) -> bool {
+        for i in 0..MOST {
+            if !self.is_alike_at(other, i) {
+                return false;
+            }
+        }
+        self.universe.global(Side::Bottom) == other.universe.global(Side::Bottom)
+            && self.universe.global(Side::Top) == other.universe.global(Side::Top)
     }
 
     /// The slots of the module of a side, by the queue, and how many tests of locality it took.
