@@ -1,11 +1,7 @@
 -- A universe may be sent to threads and shared between them.
-use denote.RattleType.{RattleType}
 use denote.Enum.Declared.{shape}
 use denote.Param.Send.{IsSend, IsSync, enum_send, enum_sync, sendable}
 use Rattle.std.proofs.Crossing.{crosses}
-use Rattle.std_heap.specs.contracts.Global as heap
-use Rattle.std_heap.specs.contracts.GlobalAllocator.TheImpl.{ghosts}
-use Rattle.smallvec.specs.contracts.small_vec.SmallVec as small
 use Rattle.ad_bits.specs.contracts.row.Row as row
 use Rattle.ad_locality.specs.contracts.surely.Surely as surely
 use Rattle.ad_cells.specs.contracts.cell.Cell as cell
@@ -58,17 +54,11 @@ row_sync = search (crosses, sendable) depth 20
 row_send : IsSend (row.the_field).row
 row_send = search (crosses, sendable) depth 20
 
-list_sync : (T N : RattleType) → IsSync T → IsSync (small.the_row T N heap.the_row ghosts)
-list_sync T N y = search (crosses, sendable) depth 30
-
-list_send : (T N : RattleType) → IsSend T → IsSend (small.the_row T N heap.the_row ghosts)
-list_send T N s = search (crosses, sendable) depth 30
-
 slots_sync : IsSync (slots.the_field).row
-slots_sync = search (entry_sync, row_sync, list_sync, crosses, sendable) depth 20
+slots_sync = search (entry_sync, row_sync, crosses, sendable) depth 30
 
 slots_send : IsSend (slots.the_field).row
-slots_send = search (entry_send, row_send, list_send, crosses, sendable) depth 20
+slots_send = search (entry_send, row_send, crosses, sendable) depth 30
 
 pub universe_sync : IsSync (flat.the_field).row
 universe_sync = search (slots_sync, sendable) depth 20

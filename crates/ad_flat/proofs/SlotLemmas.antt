@@ -1,5 +1,5 @@
 -- Slots with their lists, where an axiom comes or leaves.
-use Rattle.std.proofs.Common.{◌≡◌, ◌<◌, ℕ, Bool, true, false, List, [], ◌∷◌, Option, None, Some, IsTrue, IsFalse, refl, sym, ap, ◌∙◌, subst, inl, inr}
+use Rattle.std.proofs.Common.{◌≡◌, ◌<◌, ℕ, Bool, false, List, Option, None, Some, IsTrue, IsFalse, refl, sym, ap, ◌∙◌, subst, inl, inr}
 use Rattle.std.specs.Prelude.{is_some}
 use Rattle.std.specs.Ordering.{nat_cmp}
 use Rattle.std.specs.List.Sorted.{IsStrictlySortedBy}
@@ -9,7 +9,7 @@ use Rattle.ad_theory.specs.Numbers.{among}
 use Rattle.ad_theory.proofs.Members.{either, not_both}
 use Rattle.ad_slots.specs.Held.{Held, IsCovered}
 use Rattle.ad_slots.specs.Rising.{IsWith, IsWithout}
-use Rattle.ad_slots.specs.Places.{slot_at, is_held, held_symbols, slots_where, has_symbol, held_slots, is_global, held_globals, AreCovered, AreHeldBelow, IsReplaced}
+use Rattle.ad_slots.specs.Places.{slot_at, is_held, held_symbols, has_symbol, held_slots, is_global, held_globals, AreCovered, AreHeldBelow, IsReplaced}
 use Rattle.ad_slots.proofs.PlaceLemmas.{rising_where}
 use Rattle.ad_slots.proofs.ChangeLemmas.{put_where, taken_where, kept_where, still_below, still_covered}
 use Rattle.ad_flat.specs.Changes.{list_of, AreChanged}

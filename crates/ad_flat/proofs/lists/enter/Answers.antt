@@ -1,5 +1,4 @@
-use Rattle.std.proofs.Common.{◌≡◌, List, ℕ, sym, subst}
-use Rattle.std.specs.List.{insert}
+use Rattle.std.proofs.Common.{sym, subst}
 use Rattle.ad_slots.specs.Rising.{IsWith}
 use Rattle.ad_slots.proofs.RisingLemmas.{found_with, lost_with, lost_without}
 use Rattle.ad_flat.proofs.ListLemmas.{done_as, missing}

@@ -1,4 +1,4 @@
-use Rattle.std.proofs.Common.{◌≡◌, List, ℕ, sym, subst}
+use Rattle.std.proofs.Common.{sym, subst}
 use Rattle.ad_slots.specs.Rising.{IsWithout}
 use Rattle.ad_slots.proofs.RisingLemmas.{found_without, lost_without}
 use Rattle.ad_flat.proofs.lists.leave.Goals as goal

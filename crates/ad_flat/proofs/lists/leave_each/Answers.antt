@@ -1,4 +1,4 @@
-use Rattle.std.proofs.Common.{◌≡◌, ◌<◌, ℕ, sym, subst, refl, arith, get_or, length, vec_len}
+use Rattle.std.proofs.Common.{◌<◌, ℕ, sym, subst, refl, arith, get_or, length}
 use Rattle.std.specs.Ordering.{nat_cmp}
 use Rattle.std.specs.List.Sorted.{IsStrictlySortedBy}
 use Rattle.ad_slots.specs.Rising.{IsWithout}

@@ -1,4 +1,4 @@
-use Rattle.std.proofs.Common.{◌≡◌, ◌<◌, ℕ, ap, ◌∙◌, refl, arith, get_or, length, vec_len}
+use Rattle.std.proofs.Common.{◌≡◌, ◌<◌, ℕ, ap, ◌∙◌, refl, arith, get_or, length}
 use Rattle.ad_flat.specs.Changes.{list_of}
 use Rattle.ad_flat.proofs.ListLemmas.{among_at, same_lists, room_more, read_list}
 use Rattle.ad_flat.proofs.lists.reserve_each.Goals as goal

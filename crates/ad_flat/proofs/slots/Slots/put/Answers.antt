@@ -1,4 +1,4 @@
-use Rattle.std.proofs.Common.{◌≡◌, ◌<◌, ℕ, Some, List, IsFalse, IsTrue, sym, ap, ◌∙◌, subst, arith}
+use Rattle.std.proofs.Common.{Some, IsTrue, sym, ap, ◌∙◌, subst, arith}
 use Rattle.ad_base.specs.declared.limits.Side.TheVariants as sides
 use Rattle.ad_theory.specs.Numbers.{among}
 use Rattle.ad_slots.specs.Places.{is_held, IsReplaced}

@@ -1,4 +1,4 @@
-use Rattle.std.proofs.Common.{◌≡◌, ℕ, List, sym, ap, ◌∙◌, subst}
+use Rattle.std.proofs.Common.{ap, ◌∙◌}
 use Rattle.ad_base.specs.declared.limits.Side.TheVariants as sides
 use Rattle.ad_slots.specs.Places.{held_symbols}
 use Rattle.ad_flat.proofs.SlotLemmas.{rising_list, rising_globals, freed_indexed, freed_globals, freed_below, freed_covered}
