@@ -1,27 +1,17 @@
--- Entities that were entered: those that had a number keep it, and no others get one.
-<<<<<<< HEAD
-use Rattle.std.proofs.Common.{◌≡◌, ◌||◌, ◌<◌, ◌+◌, ◌++◌, ℕ, zero, suc, Bool, true, false, cond, IsTrue, IsFalse, List, [], ◌∷◌, length, take, get_or, Option, None, Some, refl, sym, ap, ◌∙◌, subst, inl, inr, arith}
+-- Entities that were entered have numbers, those that had one keep it, and no others get one; and why one was not entered.
+use Rattle.std.proofs.Common.{◌≡◌, ◌||◌, ◌<◌, ◌+◌, ℕ, zero, suc, Bool, false, cond, IsTrue, IsFalse, List, [], ◌∷◌, length, take, get_or, Option, None, Some, refl, sym, ap, ◌∙◌, subst, inl, inr, arith}
 use Rattle.std.specs.Option.{MatchOption, IsSome}
 use Rattle.std.proofs.lemmas.List.{take_more}
 use Rattle.std.proofs.lemmas.List.Folds.{list_any-append}
 use Rattle.ad_theory.proofs.Members.{either, not_both, or_left, or_right, or_cases}
 use Rattle.ad_entity.specs.Entities.{same_entity, has_entity}
 use Rattle.ad_entity.specs.declared.entities.Entity.{Entity}
-use Rattle.ad_syntax_laws.proofs.EntityLemmas.{same_entity_is, same_entity_of, same_entity_refl}
+use Rattle.ad_syntax_laws.proofs.EntityLemmas.{same_entity_is, same_entity_refl}
 use Rattle.ad_signature.specs.Numbering.{number_in, count}
 use Rattle.ad_signature.specs.Refused.{IsRefusedFor}
 use Rattle.ad_signature.specs.declared.refused.SymbolRefused.{SymbolRefused}
 use Rattle.ad_signature.specs.declared.refused.SymbolRefused.TheVariants.{Full, Memory}
 use Rattle.ad_flat.specs.Refused.{IsRefusedForOneOf}
-=======
-use Rattle.std.proofs.Common.{◌≡◌, ◌<◌, ℕ, zero, suc, cond, IsTrue, IsFalse, List, [], ◌∷◌, length, get_or, Option, None, Some, refl, sym, ap, ◌∙◌, subst, inl, inr, arith}
-use Rattle.std.specs.Option.{MatchOption}
-use Rattle.ad_theory.proofs.Members.{either, not_both, or_left, or_right}
-use Rattle.ad_entity.specs.Entities.{same_entity, has_entity}
-use Rattle.ad_entity.specs.declared.entities.Entity.{Entity}
-use Rattle.ad_syntax_laws.proofs.EntityLemmas.{same_entity_is}
-use Rattle.ad_signature.specs.Numbering.{number_in}
->>>>>>> 69fa21c9c71f61b5662f052a0b18454aa7a29e49
 use Rattle.ad_signature.specs.Entered.{IsGiven, IsEntered}
 use Rattle.ad_signature.specs.declared.numbers.EntityNumbers.{EntityNumbers}
 

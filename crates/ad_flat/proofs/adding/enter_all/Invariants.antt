@@ -1,10 +1,5 @@
-<<<<<<< HEAD
 -- So far the first entities of the list were entered, and no others.
 use Rattle.std.proofs.Common.{◌≡◌, ℕ, Some, IsSome, take, IsTrue, IsFalse}
-=======
--- Only entities of the list were entered so far.
-use Rattle.std.proofs.Common.{◌≡◌, ℕ, Some, IsFalse}
->>>>>>> 69fa21c9c71f61b5662f052a0b18454aa7a29e49
 use Rattle.ad_entity.specs.Entities.{has_entity}
 use Rattle.ad_entity.specs.declared.entities.Entity.{Entity}
 use Rattle.ad_signature.specs.Numbering.{number_in}
