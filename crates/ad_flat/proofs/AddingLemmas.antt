@@ -1,12 +1,12 @@
--- Entities that were entered: those that had a number keep it, and no others get one.
-use Rattle.std.proofs.Common.{◌≡◌, ◌||◌, ◌<◌, ◌+◌, ◌++◌, ℕ, zero, suc, Bool, true, false, cond, IsTrue, IsFalse, List, [], ◌∷◌, length, take, get_or, Option, None, Some, refl, sym, ap, ◌∙◌, subst, inl, inr, arith}
+-- Entities that were entered have numbers, those that had one keep it, and no others get one; and why one was not entered.
+use Rattle.std.proofs.Common.{◌≡◌, ◌||◌, ◌<◌, ◌+◌, ℕ, zero, suc, Bool, false, cond, IsTrue, IsFalse, List, [], ◌∷◌, length, take, get_or, Option, None, Some, refl, sym, ap, ◌∙◌, subst, inl, inr, arith}
 use Rattle.std.specs.Option.{MatchOption, IsSome}
 use Rattle.std.proofs.lemmas.List.{take_more}
 use Rattle.std.proofs.lemmas.List.Folds.{list_any-append}
 use Rattle.ad_theory.proofs.Members.{either, not_both, or_left, or_right, or_cases}
 use Rattle.ad_entity.specs.Entities.{same_entity, has_entity}
 use Rattle.ad_entity.specs.declared.entities.Entity.{Entity}
-use Rattle.ad_syntax_laws.proofs.EntityLemmas.{same_entity_is, same_entity_of, same_entity_refl}
+use Rattle.ad_syntax_laws.proofs.EntityLemmas.{same_entity_is, same_entity_refl}
 use Rattle.ad_signature.specs.Numbering.{number_in, count}
 use Rattle.ad_signature.specs.Refused.{IsRefusedFor}
 use Rattle.ad_signature.specs.declared.refused.SymbolRefused.{SymbolRefused}

@@ -23,4 +23,4 @@ returns-in_err-enter-clause-refused c =
     let before = c.loop-entity.symbols in
     let p = err_from_is_err_and c.from_residual.result c.from_residual.ensures.1 in
     rw (p.1, p.2) (refused_at c.args.entities.now c.loop-entity.entity-index c.entity-item.result before.limit c.args.symbols.now.limit before.names c.enter.new.self.names c.in_err-enter.field-0.0
-        c.loop-entity-test.true c.entity-item.is c.in_err-enter.ensures.refused c.loop-entity.invariant.limit c.in_err-enter.ensures.err)
+    c.loop-entity-test.true c.entity-item.is c.in_err-enter.ensures.refused c.loop-entity.invariant.limit c.in_err-enter.ensures.err)
