@@ -1,10 +1,10 @@
 -- Entities that were entered: those that had a number keep it, and no others get one.
-use Rattle.std.proofs.Common.{◌≡◌, ◌||◌, ◌<◌, ℕ, zero, suc, Bool, true, false, cond, IsTrue, IsFalse, List, [], ◌∷◌, length, get_or, Option, None, Some, refl, sym, ap, ◌∙◌, subst, inl, inr, arith}
+use Rattle.std.proofs.Common.{◌≡◌, ◌<◌, ℕ, zero, suc, cond, IsTrue, IsFalse, List, [], ◌∷◌, length, get_or, Option, None, Some, refl, sym, ap, ◌∙◌, subst, inl, inr, arith}
 use Rattle.std.specs.Option.{MatchOption}
 use Rattle.ad_theory.proofs.Members.{either, not_both, or_left, or_right}
 use Rattle.ad_entity.specs.Entities.{same_entity, has_entity}
 use Rattle.ad_entity.specs.declared.entities.Entity.{Entity}
-use Rattle.ad_syntax_laws.proofs.EntityLemmas.{same_entity_is, same_entity_of, same_entity_refl}
+use Rattle.ad_syntax_laws.proofs.EntityLemmas.{same_entity_is}
 use Rattle.ad_signature.specs.Numbering.{number_in}
 use Rattle.ad_signature.specs.Entered.{IsGiven, IsEntered}
 use Rattle.ad_signature.specs.declared.numbers.EntityNumbers.{EntityNumbers}

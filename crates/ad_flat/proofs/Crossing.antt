@@ -2,12 +2,12 @@
 use denote.Enum.Declared.{shape}
 use denote.Param.Send.{IsSend, IsSync, enum_send, enum_sync, sendable}
 use Rattle.std.proofs.Crossing.{crosses}
+use Rattle.ad_bits.specs.contracts.row.Row as row
 use Rattle.ad_locality.specs.contracts.surely.Surely as surely
 use Rattle.ad_cells.specs.contracts.cell.Cell as cell
 use Rattle.ad_cells.specs.contracts.cell.Test as test
 use Rattle.ad_slots.specs.contracts.slot.Slot as slot
 use Rattle.ad_flat.specs.contracts.shared.Entry as entry
-use Rattle.ad_flat.specs.contracts.shared.Numbers as numbers
 use Rattle.ad_flat.specs.contracts.slots.Slots as slots
 use Rattle.ad_flat.specs.contracts.flat.FlatUniverse as flat
 
@@ -48,17 +48,17 @@ entry_sync = search (slot_sync, slot_send, crosses, sendable) depth 20
 entry_send : IsSend (entry.the_field).row
 entry_send = search (slot_sync, slot_send, crosses, sendable) depth 20
 
-numbers_sync : IsSync (numbers.the_field).row
-numbers_sync = search (crosses, sendable) depth 20
+row_sync : IsSync (row.the_field).row
+row_sync = search (crosses, sendable) depth 20
 
-numbers_send : IsSend (numbers.the_field).row
-numbers_send = search (crosses, sendable) depth 20
+row_send : IsSend (row.the_field).row
+row_send = search (crosses, sendable) depth 20
 
 slots_sync : IsSync (slots.the_field).row
-slots_sync = search (entry_sync, numbers_sync, crosses, sendable) depth 20
+slots_sync = search (entry_sync, row_sync, crosses, sendable) depth 30
 
 slots_send : IsSend (slots.the_field).row
-slots_send = search (entry_send, numbers_send, crosses, sendable) depth 20
+slots_send = search (entry_send, row_send, crosses, sendable) depth 30
 
 pub universe_sync : IsSync (flat.the_field).row
 universe_sync = search (slots_sync, sendable) depth 20

@@ -5,7 +5,7 @@ use Rattle.std.proofs.lemmas.List.{get_or_past}
 use Rattle.ad_theory.proofs.Members.{either, not_both}
 use Rattle.ad_bits.specs.Rows.{has, IsLeastFrom, HasNoneFrom}
 use Rattle.ad_slots.specs.Held.{Held}
-use Rattle.ad_slots.specs.Places.{slot_at, is_held, least_free, IsReplaced}
+use Rattle.ad_slots.specs.Places.{is_held, least_free, IsReplaced}
 use Rattle.ad_flat.specs.Free.{AreFree}
 
 -- the first slot that is free

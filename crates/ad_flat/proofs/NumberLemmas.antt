@@ -1,8 +1,8 @@
 -- The numbers of the entities of a list.
-use Rattle.std.proofs.Common.{◌≡◌, ◌<◌, ◌==◌, ◌||◌, ◌++◌, ℕ, Bool, true, false, IsTrue, IsFalse, List, [], ◌∷◌, Option, None, Some, Result, Ok, Err, IfOk, refl, sym, ap, ◌∙◌, subst, inl, inr, eqb-true, eq-eqb}
+use Rattle.std.proofs.Common.{◌≡◌, ◌==◌, ◌||◌, ℕ, Bool, true, false, IsTrue, List, [], ◌∷◌, Option, None, Some, Result, Ok, Err, IfOk, refl, sym, ap, ◌∙◌, subst, inl, inr, eqb-true, eq-eqb}
 use Rattle.std.proofs.lemmas.List.Folds.{list_any-append}
 use Rattle.ad_theory.specs.Numbers.{among}
-use Rattle.ad_theory.proofs.Members.{either, not_both, or_left, or_right, or_cases}
+use Rattle.ad_theory.proofs.Members.{not_both, or_left, or_right, or_cases}
 use Rattle.ad_entity.specs.Entities.{same_entity, has_entity}
 use Rattle.ad_entity.specs.declared.entities.Entity.{Entity}
 use Rattle.ad_syntax_laws.proofs.EntityLemmas.{same_entity_is, same_entity_refl}

@@ -1,28 +1,24 @@
 -- Slots with their lists, where an axiom comes or leaves.
-use Rattle.std.proofs.Common.{◌≡◌, ◌<◌, ℕ, Bool, true, false, List, [], ◌∷◌, Option, None, Some, IsTrue, IsFalse, refl, sym, ap, ◌∙◌, subst, inl, inr}
+use Rattle.std.proofs.Common.{◌≡◌, ◌<◌, ℕ, Bool, false, List, Option, None, Some, IsTrue, IsFalse, refl, sym, ap, ◌∙◌, subst, inl, inr}
 use Rattle.std.specs.Prelude.{is_some}
 use Rattle.std.specs.Ordering.{nat_cmp}
 use Rattle.std.specs.List.Sorted.{IsStrictlySortedBy}
+use Rattle.smallvec.specs.SmallVec.{SmallVec}
 use Rattle.ad_base.specs.declared.limits.Side.{Side}
 use Rattle.ad_theory.specs.Numbers.{among}
 use Rattle.ad_theory.proofs.Members.{either, not_both}
 use Rattle.ad_slots.specs.Held.{Held, IsCovered}
 use Rattle.ad_slots.specs.Rising.{IsWith, IsWithout}
-use Rattle.ad_slots.specs.Places.{slot_at, is_held, held_symbols, slots_where, has_symbol, held_slots, is_global, held_globals, AreCovered, AreHeldBelow, IsReplaced}
+use Rattle.ad_slots.specs.Places.{slot_at, is_held, held_symbols, has_symbol, held_slots, is_global, held_globals, AreCovered, AreHeldBelow, IsReplaced}
 use Rattle.ad_slots.proofs.PlaceLemmas.{rising_where}
 use Rattle.ad_slots.proofs.ChangeLemmas.{put_where, taken_where, kept_where, still_below, still_covered}
-use Rattle.ad_flat.specs.declared.lists.Change.{Change}
-use Rattle.ad_flat.specs.declared.lists.Change.TheVariants as changes
-use Rattle.ad_flat.specs.Changes.{list_of, AreNewLists, AreChanged}
+use Rattle.ad_flat.specs.Changes.{list_of, AreChanged}
 
-pub rising_list : (given lists : List (List ℕ)) (slots : List (Option Held)) → given ≡ lists → ((s : ℕ) → list_of lists s ≡ held_slots slots s) → (s : ℕ) → IsStrictlySortedBy nat_cmp (list_of given s)
-rising_list given lists slots same indexed s = subst (λ xs. IsStrictlySortedBy nat_cmp xs) (sym (ap (λ ls. list_of ls s) same ∙ indexed s)) (rising_where (has_symbol s) slots)
+pub rising_list : (lists : List (SmallVec ℕ)) (slots : List (Option Held)) → ((s : ℕ) → list_of lists s ≡ held_slots slots s) → (s : ℕ) → IsStrictlySortedBy nat_cmp (list_of lists s)
+rising_list lists slots indexed s = subst (λ xs. IsStrictlySortedBy nat_cmp xs) (sym (indexed s)) (rising_where (has_symbol s) slots)
 
 pub rising_globals : (list : List ℕ) (slots : List (Option Held)) (side : Side) → list ≡ held_globals slots side → IsStrictlySortedBy nat_cmp list
 rising_globals list slots side is = subst (λ xs. IsStrictlySortedBy nat_cmp xs) (sym is) (rising_where (is_global side) slots)
-
-pub given_for : (change : Change) (i : ℕ) (xs ys : List ℕ) (ls ms news : List (List ℕ)) → xs ≡ ys → ls ≡ ms → AreNewLists change i xs ls news → AreNewLists change i ys ms news
-given_for change i xs ys ls ms news e f given = subst (λ zs. AreNewLists change i zs ms news) e (subst (λ ks. AreNewLists change i xs ks news) f given)
 
 fails_free : (test : Option Held → Bool) → test None ≡ false → (slot : Option Held) → IsFalse (is_some slot) → test slot ≡ false
 fails_free test free None vacant = free
@@ -36,7 +32,7 @@ none_is_none h e = cc
 
 -- an axiom comes to a free slot
 module _ (i : ℕ) (h : Held) (old new : List (Option Held)) (r : IsReplaced i (Some h) old new) (vacant : IsFalse (is_held old i)) where
-  pub put_indexed : (symbols : List ℕ) (lists after : List (List ℕ)) → symbols ≡ h.symbols → ((s : ℕ) → list_of lists s ≡ held_slots old s) → AreChanged changes.Comes i symbols lists after
+  pub put_indexed : (symbols : List ℕ) (lists after : List (SmallVec ℕ)) → symbols ≡ h.symbols → ((s : ℕ) → list_of lists s ≡ held_slots old s) → AreChanged (IsWith i) symbols lists after
       → (s : ℕ) → list_of after s ≡ held_slots new s
   put_indexed symbols lists after same indexed changed s = elim (either (among symbols s)) [
     | inl t ↦ put_where (has_symbol s) refl i (Some h) old new r (list_of after s) (sym (ap (λ xs. among xs s) same) ∙ t)
@@ -58,7 +54,7 @@ module _ (i : ℕ) (h : Held) (old new : List (Option Held)) (r : IsReplaced i (
 
 -- a slot is freed
 module _ (i : ℕ) (old new : List (Option Held)) (r : IsReplaced i None old new) where
-  pub freed_indexed : (symbols : List ℕ) (lists after : List (List ℕ)) → symbols ≡ held_symbols old i → ((s : ℕ) → list_of lists s ≡ held_slots old s) → AreChanged changes.Leaves i symbols lists after
+  pub freed_indexed : (symbols : List ℕ) (lists after : List (SmallVec ℕ)) → symbols ≡ held_symbols old i → ((s : ℕ) → list_of lists s ≡ held_slots old s) → AreChanged (IsWithout i) symbols lists after
       → (s : ℕ) → list_of after s ≡ held_slots new s
   freed_indexed symbols lists after same indexed changed s = elim (either (among symbols s)) [
     | inl t ↦ taken_where (has_symbol s) refl i None old new r (list_of after s) refl

@@ -1,8 +1,7 @@
 -- What holds of the slots: bounds that a universe owes.
-use Rattle.std.specs.Prelude.{◌<◌, ◌≤◌, ℕ, IsTrue, List, Option, length, vec_len}
-use Rattle.std.proofs.Common.{◌≡◌, arith}
+use Rattle.std.specs.Prelude.{◌<◌, ◌≤◌, ℕ, IsTrue, length, vec_len}
+use Rattle.std.proofs.Common.{arith}
 use Rattle.ad_theory.specs.Numbers.{among}
-use Rattle.ad_slots.specs.Held.{Held}
 use Rattle.ad_slots.specs.Places.{is_held, held_symbols}
 use Rattle.ad_slots.proofs.PlaceLemmas.{held_within}
 use Rattle.ad_flat.specs.declared.slots.Slots.{Slots}

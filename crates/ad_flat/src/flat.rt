@@ -1,4 +1,4 @@
-ghost use Rattle.std.specs.Prelude.{◌≡◌, ◌≢◌, ◌<◌, ℕ, [], None, IfOk, OnOk, OnErr, IsTrue};
+ghost use Rattle.std.specs.Prelude.{◌≡◌, ◌≢◌, ◌<◌, ℕ, [], None, IfOk, OnErr, IsTrue};
 ghost use Rattle.ad_base.specs.Limits.{AreWithinStandard};
 ghost use Rattle.ad_slots.specs.Places.{slot_at, is_held, held_symbols, held_slots, held_globals, is_held_local, least_free, IsReplaced};
 ghost use Rattle.ad_cells.proofs.StackLemmas as codes;
@@ -67,19 +67,17 @@ impl FlatUniverse {
         Ok(i)
     }
 
-    /// Frees a slot that holds an axiom. The lists that copies share are written anew, which takes memory; after want of
-    /// memory all slots are as before.
-    pub fn remove(&mut self, alloc: Global, i: u32) -> Result<(), Memory>
+    /// Frees a slot that holds an axiom. It takes no memory.
+    pub fn remove(&mut self, i: u32)
         requires { IsTrue (is_held self.old.slots.entries.items i) }
-        ensures ok { OnOk result (IsReplaced i None self.old.slots.entries.items self.new.slots.entries.items) }
-        ensures err { OnErr result (self.new.slots.entries.items ≡ self.old.slots.entries.items) }
+        ensures freed { IsReplaced i None self.old.slots.entries.items self.new.slots.entries.items }
         ensures slots { self.new.slots.most ≡ self.old.slots.most }
         ensures symbols { self.new.slots.symbols ≡ self.old.slots.symbols }
     {
-        self.slots.remove(alloc, i)
+        self.slots.remove(i);
     }
 
-    /// The same universe once more. It shares axioms and lists with this one.
+    /// The same universe once more. It shares axioms with this one.
     pub fn copy(&self, alloc: Global) -> Result<FlatUniverse, Memory>
         ensures entries { IfOk result (λ copy. copy.slots.entries.items ≡ self.now.slots.entries.items) }
         ensures slots { IfOk result (λ copy. copy.slots.most ≡ self.now.slots.most) }

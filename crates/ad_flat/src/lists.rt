@@ -2,88 +2,121 @@
 ghost use Rattle.std.specs.Prelude.{◌≡◌, ◌<◌, ◌≤◌, ◌+◌, ◌⊎◌, ℕ, length, vec_len, vec_capacity, IfOk, OnOk, IsTrue, IsFalse};
 ghost use Rattle.std.specs.Ordering.{nat_cmp};
 ghost use Rattle.std.specs.List.Sorted.{IsStrictlySortedBy};
+ghost use Rattle.smallvec.specs.SmallVec.{HasRoomFor};
 ghost use Rattle.ad_theory.specs.Numbers.{among};
-ghost use Rattle.ad_slots.specs.Rising.{IsWith};
-ghost use Rattle.ad_flat.specs.declared.lists.Change.{Change};
-ghost use Rattle.ad_flat.specs.Changes.{list_of, IsChanged, AreNewLists, AreChanged};
+ghost use Rattle.ad_slots.specs.Rising.{IsWith, IsWithout};
+ghost use Rattle.ad_flat.specs.Changes.{list_at, list_of, AreChanged};
 
-use crate::shared::Numbers;
 use ad_base::Memory;
-use ad_slots::rising::{put_into, with, without};
+use ad_slots::rising::put_into;
+use smallvec::SmallVec;
 use std::alloc::Global;
 
-// What becomes of a slot in lists.
-#[derive(Clone, Copy)]
-pub(crate) enum Change {
-    Comes,
-    Leaves,
-}
-
-// The list after the slot has come or left.
-fn changed(alloc: Global, list: &Numbers, slot: u32, change: Change) -> Result<Numbers, Memory>
-    requires { IsStrictlySortedBy nat_cmp list.now }
-    ensures { IfOk result (λ after. IsChanged change slot list.now after) }
+// Puts the number into the list. There is room for it, unless it stands there.
+fn enter(list: &mut SmallVec<u32, 6>, n: u32)
+    requires rising { IsStrictlySortedBy nat_cmp list.old.items }
+    requires room { IsFalse (among list.old.items n) → HasRoomFor list.old 1 }
+    ensures { IsWith n list.old.items list.new.items }
 {
-    match change {
-        Change::Comes => Numbers::new(alloc, with(alloc, list.as_slice(), slot)?),
-        Change::Leaves => Numbers::new(alloc, without(alloc, list.as_slice(), slot)?),
+    match list.as_slice().binary_search(&n) {
+        Ok(_) => {}
+        Err(at) => {
+            let _put = list.insert(at, n);
+        }
     }
 }
 
-// The lists of these symbols after the slot has come or left.
-pub(crate) fn new_lists(
-    alloc: Global,
-    lists: &[Numbers],
-    symbols: &[u32],
-    slot: u32,
-    change: Change,
-) -> Result<Vec<Numbers>, Memory>
-    requires below { (s : ℕ) → IsTrue (among symbols.now s) → s < length lists.now }
-    requires rising { (s : ℕ) → s < length lists.now → IsStrictlySortedBy nat_cmp (list_of lists.now s) }
-    ensures { IfOk result (λ news. AreNewLists change slot symbols.now lists.now news.items) }
+// Takes the number out of the list.
+fn leave(list: &mut SmallVec<u32, 6>, n: u32)
+    requires { IsStrictlySortedBy nat_cmp list.old.items }
+    ensures { IsWithout n list.old.items list.new.items }
 {
-    let mut news = Vec::with_capacity(alloc, symbols.len())?;
-    for symbol in symbols {
-        news.push(changed(alloc, &lists[*symbol as usize], slot, change)?)?;
+    match list.as_slice().binary_search(&n) {
+        Ok(at) => {
+            list.remove(at);
+        }
+        Err(_) => {}
     }
-    Ok(news)
 }
 
-// Puts the new lists of these symbols in the place of the old ones.
-pub(crate) fn put_lists(lists: &mut Vec<Numbers>, symbols: &[u32], mut news: Vec<Numbers>)
+// Puts the slot into the lists of these symbols. Each of them has room.
+pub(crate) fn enter_each(lists: &mut Vec<SmallVec<u32, 6>>, symbols: &[u32], slot: u32)
     requires below { (s : ℕ) → IsTrue (among symbols.now s) → s < vec_len lists.old }
-    requires long { length news.items ≡ length symbols.now }
-    ensures changed { (change : Change) (slot : ℕ) → AreNewLists change slot symbols.now lists.old.items news.items →
-        AreChanged change slot symbols.now lists.old.items lists.new.items }
+    requires rising { (s : ℕ) → IsStrictlySortedBy nat_cmp (list_of lists.old.items s) }
+    requires room { (s : ℕ) → IsTrue (among symbols.now s) → HasRoomFor (list_at lists.old.items s) 1 }
+    ensures changed { AreChanged (IsWith slot) symbols.now lists.old.items lists.new.items }
     ensures len { vec_len lists.new ≡ vec_len lists.old }
 {
-    for done in 0..symbols.len() {
-        let at = symbols.len() - 1 - done;
-        let list = news.pop().unwrap();
-        lists[symbols[at] as usize] = list;
+    for symbol in symbols {
+        enter(&mut lists[*symbol as usize], slot);
     }
+}
+
+// Takes the slot out of the lists of these symbols.
+pub(crate) fn leave_each(lists: &mut Vec<SmallVec<u32, 6>>, symbols: &[u32], slot: u32)
+    requires below { (s : ℕ) → IsTrue (among symbols.now s) → s < vec_len lists.old }
+    requires rising { (s : ℕ) → IsStrictlySortedBy nat_cmp (list_of lists.old.items s) }
+    ensures changed { AreChanged (IsWithout slot) symbols.now lists.old.items lists.new.items }
+    ensures len { vec_len lists.new ≡ vec_len lists.old }
+{
+    for symbol in symbols {
+        leave(&mut lists[*symbol as usize], slot);
+    }
+}
+
+// Makes room for one more slot in the lists of these symbols.
+pub(crate) fn make_room(
+    alloc: Global,
+    lists: &mut Vec<SmallVec<u32, 6>>,
+    symbols: &[u32],
+) -> Result<(), Memory>
+    ensures same { (s : ℕ) → list_of lists.new.items s ≡ list_of lists.old.items s }
+    ensures enough { OnOk result ((s : ℕ) → IsTrue (among symbols.now s) → s < vec_len lists.new) }
+    ensures room { OnOk result ((s : ℕ) → IsTrue (among symbols.now s) → HasRoomFor (list_at lists.new.items s) 1) }
+    ensures most { (most : ℕ) → ((s : ℕ) → IsTrue (among symbols.now s) → s < most) → vec_len lists.old ≤ most → vec_len lists.new ≤ most }
+    ensures no_fewer { vec_len lists.old ≤ vec_len lists.new }
+{
+    grow(alloc, lists, bound_of(symbols))?;
+    reserve_each(lists, symbols)
+}
+
+// Makes room for one more slot in the lists of these symbols, which are there.
+fn reserve_each(lists: &mut Vec<SmallVec<u32, 6>>, symbols: &[u32]) -> Result<(), Memory>
+    requires { (s : ℕ) → IsTrue (among symbols.now s) → s < vec_len lists.old }
+    ensures same { (s : ℕ) → list_of lists.new.items s ≡ list_of lists.old.items s }
+    ensures room { OnOk result ((s : ℕ) → IsTrue (among symbols.now s) → HasRoomFor (list_at lists.new.items s) 1) }
+    ensures len { vec_len lists.new ≡ vec_len lists.old }
+{
+    for symbol in symbols {
+        lists[*symbol as usize].reserve(1)?;
+    }
+    Ok(())
 }
 
 // Makes the lists at least so many. New ones are empty.
-pub(crate) fn grow(alloc: Global, lists: &mut Vec<Numbers>, count: usize) -> Result<(), Memory>
+fn grow(alloc: Global, lists: &mut Vec<SmallVec<u32, 6>>, count: usize) -> Result<(), Memory>
     ensures same { (s : ℕ) → list_of lists.new.items s ≡ list_of lists.old.items s }
     ensures enough { OnOk result (count ≤ vec_len lists.new) }
     ensures most { (most : ℕ) → count ≤ most → vec_len lists.old ≤ most → vec_len lists.new ≤ most }
     ensures no_fewer { vec_len lists.old ≤ vec_len lists.new }
 {
     for _symbol in lists.len()..count {
-        lists.push(Numbers::new(alloc, Vec::new(alloc))?)?;
+        lists.push(SmallVec::new(alloc))?;
     }
     Ok(())
 }
 
-// The same lists once more.
-pub(crate) fn share_lists(alloc: Global, lists: &[Numbers]) -> Result<Vec<Numbers>, Memory>
-    ensures { IfOk result (λ copy. copy.items ≡ lists.now) }
+// Other lists of the same slots.
+pub(crate) fn copy_lists(
+    alloc: Global,
+    lists: &[SmallVec<u32, 6>],
+) -> Result<Vec<SmallVec<u32, 6>>, Memory>
+    ensures same { IfOk result (λ copy. (s : ℕ) → list_of copy.items s ≡ list_of lists.now s) }
+    ensures len { IfOk result (λ copy. vec_len copy ≡ length lists.now) }
 {
     let mut copy = Vec::with_capacity(alloc, lists.len())?;
     for list in lists {
-        copy.push(list.share()?)?;
+        copy.push(SmallVec::from_slice(alloc, list.as_slice())?)?;
     }
     Ok(copy)
 }

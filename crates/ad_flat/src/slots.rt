@@ -1,23 +1,23 @@
 ghost use Rattle.std.specs.Prelude.{◌≡◌, ◌<◌, ◌≤◌, ◌↔◌, ℕ, Some, None, [], vec_len, vec_capacity, length, IfOk, OnOk, OnErr, IsTrue, IsFalse};
 ghost use Rattle.std.specs.Option.{option_copied};
+ghost use Rattle.smallvec.specs.SmallVec.{HasRoomFor};
 ghost use Rattle.ad_base.specs.declared.limits.Side.{Side};
 ghost use Rattle.ad_base.specs.declared.limits.Side.TheVariants as sides;
 ghost use Rattle.ad_theory.specs.Numbers.{among};
 ghost use Rattle.ad_slots.specs.Held.{IsCovered};
 ghost use Rattle.ad_slots.specs.Places.{slot_at, is_held, held_slots, held_symbols, held_globals, is_global, least_free, AreCovered, AreHeldBelow, IsReplaced};
-ghost use Rattle.ad_flat.specs.Changes.{list_of};
+ghost use Rattle.ad_flat.specs.Changes.{list_at, list_of};
 ghost use Rattle.ad_flat.specs.Free.{AreFree};
 
 use crate::entries::{free, hold, share_entries, symbols_of};
-use crate::lists::{
-    Change, bound_of, copy_list, enter_if, grow, new_lists, put_lists, share_lists,
-};
+use crate::lists::{copy_list, copy_lists, enter_each, enter_if, leave_each, make_room};
 use crate::rows::{copy_row, full_row};
-use crate::shared::{Entry, Numbers};
+use crate::shared::Entry;
 use ad_base::{Limits, Memory, Side};
 use ad_bits::Row;
 use ad_slots::Slot;
 use ad_slots::rising::drop_from;
+use smallvec::SmallVec;
 use std::alloc::Global;
 
 // The slots, with what is looked up in them.
@@ -31,7 +31,7 @@ pub(crate) struct Slots {
     // the free slots
     free: Row,
     // for each symbol the slots in whose signatures it stands; those past the end stand in none
-    occurrences: Vec<Numbers>,
+    occurrences: Vec<SmallVec<u32, 6>>,
     // the slots that are not local for nothing, on each side
     bottom: Vec<u32>,
     top: Vec<u32>,
@@ -78,13 +78,14 @@ impl Slots {
         }
     }
 
-    // Takes the memory that one more axiom with these symbols needs, but for its lists.
+    // Takes the memory that one more axiom with these symbols needs.
     fn reserve(&mut self, alloc: Global, symbols: &[u32]) -> Result<(), Memory>
         requires { (s : ℕ) → IsTrue (among symbols.now s) → s < self.old.symbols }
         ensures entries { self.new.entries.items ≡ self.old.entries.items }
         ensures most { self.new.most ≡ self.old.most }
         ensures symbols { self.new.symbols ≡ self.old.symbols }
         ensures lists { OnOk result ((s : ℕ) → IsTrue (among symbols.now s) → s < vec_len self.new.occurrences) }
+        ensures places { OnOk result ((s : ℕ) → IsTrue (among symbols.now s) → HasRoomFor (list_at self.new.occurrences.items s) 1) }
         ensures room { OnOk result (vec_len self.new.entries < vec_capacity self.new.entries) }
         ensures bottom { OnOk result (vec_len self.new.bottom < vec_capacity self.new.bottom) }
         ensures top { OnOk result (vec_len self.new.top < vec_capacity self.new.top) }
@@ -92,7 +93,7 @@ impl Slots {
         self.entries.reserve(1)?;
         self.bottom.reserve(1)?;
         self.top.reserve(1)?;
-        grow(alloc, &mut self.occurrences, bound_of(symbols))
+        make_room(alloc, &mut self.occurrences, symbols)
     }
 
     // Puts an axiom into a free slot. Whether it is local for nothing is known.
@@ -117,15 +118,8 @@ impl Slots {
         ensures symbols { self.new.symbols ≡ self.old.symbols }
     {
         self.reserve(alloc, slot.symbols())?;
-        let news = new_lists(
-            alloc,
-            self.occurrences.as_slice(),
-            slot.symbols(),
-            i,
-            Change::Comes,
-        )?;
         let entry = Entry::new(alloc, slot)?;
-        put_lists(&mut self.occurrences, entry.slot().symbols(), news);
+        enter_each(&mut self.occurrences, entry.slot().symbols(), i);
         enter_if(&mut self.bottom, is_bottom_global, i);
         enter_if(&mut self.top, is_top_global, i);
         hold(&mut self.entries, i as usize, entry);
@@ -134,30 +128,21 @@ impl Slots {
     }
 
     // Frees a slot.
-    pub(crate) fn remove(&mut self, alloc: Global, i: u32) -> Result<(), Memory>
+    pub(crate) fn remove(&mut self, i: u32)
         requires { IsTrue (is_held self.old.entries.items i) }
-        ensures ok { OnOk result (IsReplaced i None self.old.entries.items self.new.entries.items) }
-        ensures err { OnErr result (self.new.entries.items ≡ self.old.entries.items) }
+        ensures freed { IsReplaced i None self.old.entries.items self.new.entries.items }
         ensures most { self.new.most ≡ self.old.most }
         ensures symbols { self.new.symbols ≡ self.old.symbols }
     {
         let symbols = symbols_of(self.entries.as_slice(), i as usize);
-        let news = new_lists(
-            alloc,
-            self.occurrences.as_slice(),
-            symbols,
-            i,
-            Change::Leaves,
-        )?;
-        put_lists(&mut self.occurrences, symbols, news);
+        leave_each(&mut self.occurrences, symbols, i);
         drop_from(&mut self.bottom, i);
         drop_from(&mut self.top, i);
         free(&mut self.entries, i as usize);
         self.free.set(i);
-        Ok(())
     }
 
-    // The same slots once more, which share axioms and lists.
+    // The same slots once more, which share axioms.
     pub(crate) fn copy(&self, alloc: Global) -> Result<Slots, Memory>
         ensures entries { IfOk result (λ copy. copy.entries.items ≡ self.now.entries.items) }
         ensures most { IfOk result (λ copy. copy.most ≡ self.now.most) }
@@ -184,11 +169,12 @@ impl Slots {
         Ok((bottom, copy_list(alloc, self.top.as_slice())?))
     }
 
-    fn copy_places(&self, alloc: Global) -> Result<(Vec<Numbers>, Row), Memory>
-        ensures occurrences { IfOk result (λ copy. copy.0.items ≡ self.now.occurrences.items) }
+    fn copy_places(&self, alloc: Global) -> Result<(Vec<SmallVec<u32, 6>>, Row), Memory>
+        ensures occurrences { IfOk result (λ copy. (s : ℕ) → list_of copy.0.items s ≡ list_of self.now.occurrences.items s) }
+        ensures len { IfOk result (λ copy. vec_len copy.0 ≡ vec_len self.now.occurrences) }
         ensures free { IfOk result (λ copy. copy.1 ≡ self.now.free) }
     {
-        let occurrences = share_lists(alloc, self.occurrences.as_slice())?;
+        let occurrences = copy_lists(alloc, self.occurrences.as_slice())?;
         Ok((occurrences, copy_row(alloc, &self.free)?))
     }
 

@@ -1,11 +1,8 @@
 //! Lists of numbers that rise strictly.
-ghost use Rattle.std.specs.Prelude.{◌≡◌, ◌<◌, ◌≤◌, ◌+◌, IfOk, vec_len, vec_capacity};
+ghost use Rattle.std.specs.Prelude.{◌≡◌, ◌<◌, ◌≤◌, ◌+◌, vec_len, vec_capacity};
 ghost use Rattle.std.specs.Ordering.{nat_cmp};
 ghost use Rattle.std.specs.List.Sorted.{IsStrictlySortedBy};
 ghost use Rattle.ad_slots.specs.Rising.{IsWith, IsWithout};
-
-use ad_base::Memory;
-use std::alloc::Global;
 
 /// Puts the number into the list, which has room for one more.
 pub fn put_into(list: &mut Vec<u32>, n: u32)
@@ -35,26 +32,4 @@ pub fn drop_from(list: &mut Vec<u32>, n: u32)
         }
         Err(_) => {}
     }
-}
-
-/// Another list, with the number.
-pub fn with(alloc: Global, list: &[u32], n: u32) -> Result<Vec<u32>, Memory>
-    requires rising { IsStrictlySortedBy nat_cmp list.now }
-    ensures items { IfOk result (λ more. IsWith n list.now more.items) }
-{
-    let mut more = Vec::with_capacity(alloc, list.len() + 1)?;
-    more.extend_from_slice(list)?;
-    put_into(&mut more, n);
-    Ok(more)
-}
-
-/// Another list, without the number.
-pub fn without(alloc: Global, list: &[u32], n: u32) -> Result<Vec<u32>, Memory>
-    requires rising { IsStrictlySortedBy nat_cmp list.now }
-    ensures items { IfOk result (λ fewer. IsWithout n list.now fewer.items) }
-{
-    let mut fewer = Vec::with_capacity(alloc, list.len())?;
-    fewer.extend_from_slice(list)?;
-    drop_from(&mut fewer, n);
-    Ok(fewer)
 }

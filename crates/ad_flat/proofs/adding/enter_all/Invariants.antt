@@ -1,5 +1,5 @@
 -- Only entities of the list were entered so far.
-use Rattle.std.proofs.Common.{◌≡◌, ℕ, Some, take, IsTrue, IsFalse}
+use Rattle.std.proofs.Common.{◌≡◌, ℕ, Some, IsFalse}
 use Rattle.ad_entity.specs.Entities.{has_entity}
 use Rattle.ad_entity.specs.declared.entities.Entity.{Entity}
 use Rattle.ad_signature.specs.Numbering.{number_in}

@@ -1,4 +1,4 @@
-use Rattle.std.proofs.Common.{◌≡◌, ℕ, IsTrue, ap, ◌∙◌, subst}
+use Rattle.std.proofs.Common.{IsTrue, ◌∙◌, subst}
 use Rattle.ad_theory.specs.Numbers.{among}
 use Rattle.ad_cells.specs.Codes.{symbols_of}
 use Rattle.ad_codes.proofs.SignatureLemmas.{code_within}

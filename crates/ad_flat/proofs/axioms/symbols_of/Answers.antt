@@ -1,8 +1,6 @@
-use Rattle.std.proofs.Common.{◌≡◌, ℕ, ap, ◌∙◌}
-use Rattle.ad_theory.specs.Numbers.{among}
+use Rattle.std.proofs.Common.{ap, ◌∙◌}
 use Rattle.ad_entity.specs.Entities.{has_entity}
 use Rattle.ad_locality.specs.Signature.{occurrences}
-use Rattle.ad_codes.specs.Laws.{numbers_of}
 use Rattle.ad_flat.proofs.NumberLemmas.{same_numbers, found_more}
 use Rattle.ad_flat.proofs.axioms.symbols_of.Goals as goal
 

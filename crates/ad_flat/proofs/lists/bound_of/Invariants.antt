@@ -1,5 +1,5 @@
 -- The bound is above the symbols so far.
-use Rattle.std.proofs.Common.{◌≡◌, ◌<◌, ◌≤◌, ℕ, IsTrue, take}
+use Rattle.std.proofs.Common.{◌<◌, ◌≤◌, ℕ, IsTrue, take}
 use Rattle.ad_theory.specs.Numbers.{among}
 use Rattle.ad_flat.proofs.lists.bound_of.Given as goal
 

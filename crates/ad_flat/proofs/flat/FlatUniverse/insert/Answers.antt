@@ -1,6 +1,5 @@
-use Rattle.std.proofs.Common.{◌≡◌, ◌<◌, ◌≤◌, ℕ, length, IsFalse, IsTrue, sym, ap, ◌∙◌, subst, arith}
+use Rattle.std.proofs.Common.{◌≤◌, length, sym, ap, ◌∙◌, arith}
 use Rattle.ad_locality.specs.Signature.{occurrences}
-use Rattle.ad_theory.specs.Numbers.{among}
 use Rattle.ad_slots.specs.Places.{is_held, least_free}
 use Rattle.ad_slots.proofs.PlaceLemmas.{least_is_free, least_within}
 use Rattle.ad_flat.proofs.NumberLemmas.{entity_of}

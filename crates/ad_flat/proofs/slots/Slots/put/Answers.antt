@@ -1,14 +1,12 @@
-use Rattle.std.proofs.Common.{◌≡◌, ◌<◌, ℕ, Some, List, IsFalse, IsTrue, sym, ap, ◌∙◌, subst, arith}
+use Rattle.std.proofs.Common.{Some, IsTrue, sym, ap, ◌∙◌, subst, arith}
 use Rattle.ad_base.specs.declared.limits.Side.TheVariants as sides
 use Rattle.ad_theory.specs.Numbers.{among}
 use Rattle.ad_slots.specs.Places.{is_held, IsReplaced}
-use Rattle.ad_flat.specs.declared.lists.Change.TheVariants as changes
-use Rattle.ad_flat.specs.Changes.{AreNewLists}
-use Rattle.ad_flat.proofs.SlotLemmas.{rising_list, rising_globals, given_for, put_indexed, put_globals, put_below, put_covered}
+use Rattle.ad_flat.proofs.SlotLemmas.{rising_list, rising_globals, put_indexed, put_globals, put_below, put_covered}
 use Rattle.ad_flat.proofs.slots.Slots.put.Goals as goal
 
-pub new_lists-requires-clause-rising : goal.new_lists-requires-clause-rising
-new_lists-requires-clause-rising c = λ s l. rising_list c.as_slice.result.now c.reserve.new.self.occurrences.items c.reserve.new.self.entries.items c.as_slice.ensures.value c.reserve.new.self.indexed s
+pub enter_each-requires-clause-rising : goal.enter_each-requires-clause-rising
+enter_each-requires-clause-rising c = rising_list c.reserve.new.self.occurrences.items c.reserve.new.self.entries.items c.reserve.new.self.indexed
 
 pub enter_if-requires-clause-rising : goal.enter_if-requires-clause-rising
 enter_if-requires-clause-rising c = rising_globals c.reserve.new.self.bottom.items c.reserve.new.self.entries.items sides.Bottom c.reserve.new.self.bottom_globals
@@ -22,7 +20,7 @@ invariant_of-self-clause-within c = c.hold.ensures.len c.reserve.new.self.most (
 pub invariant_of-self-clause-below : goal.invariant_of-self-clause-below
 invariant_of-self-clause-below c = put_below c.args.i c.args.slot c.reserve.new.self.entries.items c.hold.new.entries.items
     (subst (λ h. IsReplaced c.args.i (Some h) c.reserve.new.self.entries.items c.hold.new.entries.items) c.in_ok-entry.ensures c.hold.ensures.replaced)
-    (ap (λ es. is_held es c.args.i) c.in_ok-reserve.ensures.entries ∙ c.requires.vacant) c.args.slot.symbols _ _ c.put_lists.ensures.len c.reserve.new.self.below
+    (ap (λ es. is_held es c.args.i) c.in_ok-reserve.ensures.entries ∙ c.requires.vacant) c.args.slot.symbols _ _ c.enter_each.ensures.len c.reserve.new.self.below
     (λ s t. c.in_ok-reserve.ensures.lists s (subst (λ xs. IsTrue (among xs s)) (sym c.symbols.ensures) t))
 
 pub invariant_of-self-clause-covered : goal.invariant_of-self-clause-covered
@@ -33,10 +31,9 @@ invariant_of-self-clause-covered c = put_covered c.args.i c.args.slot c.reserve.
 pub invariant_of-self-clause-indexed : goal.invariant_of-self-clause-indexed
 invariant_of-self-clause-indexed c = put_indexed c.args.i c.args.slot c.reserve.new.self.entries.items c.hold.new.entries.items
     (subst (λ h. IsReplaced c.args.i (Some h) c.reserve.new.self.entries.items c.hold.new.entries.items) c.in_ok-entry.ensures c.hold.ensures.replaced)
-    (ap (λ es. is_held es c.args.i) c.in_ok-reserve.ensures.entries ∙ c.requires.vacant) c.symbols-3.result.now c.reserve.new.self.occurrences.items c.put_lists.new.lists.items
-    (c.symbols-3.ensures ∙ ap (λ h. h.symbols) (c.slot-2.ensures ∙ c.in_ok-entry.ensures)) c.reserve.new.self.indexed
-    (c.put_lists.ensures.changed changes.Comes c.args.i (given_for changes.Comes c.args.i c.symbols-2.result.now c.symbols-3.result.now c.as_slice.result.now c.reserve.new.self.occurrences.items c.in_ok-news.news.items
-    (c.symbols-2.ensures ∙ sym (c.symbols-3.ensures ∙ ap (λ h. h.symbols) (c.slot-2.ensures ∙ c.in_ok-entry.ensures))) c.as_slice.ensures.value c.in_ok-news.ensures))
+    (ap (λ es. is_held es c.args.i) c.in_ok-reserve.ensures.entries ∙ c.requires.vacant) c.symbols-2.result.now c.reserve.new.self.occurrences.items c.enter_each.new.lists.items
+    (c.symbols-2.ensures ∙ ap (λ h. h.symbols) (c.slot-2.ensures ∙ c.in_ok-entry.ensures)) c.reserve.new.self.indexed
+    c.enter_each.ensures.changed
 
 pub invariant_of-self-clause-bottom_globals : goal.invariant_of-self-clause-bottom_globals
 invariant_of-self-clause-bottom_globals c = put_globals c.args.i c.args.slot c.reserve.new.self.entries.items c.hold.new.entries.items
