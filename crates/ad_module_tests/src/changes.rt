@@ -48,7 +48,7 @@ fn change(
     let Some(slot) = place else {
         return Ok(Some(numbered.insert(alloc, noted)?));
     };
-    numbered.remove(alloc, slot)?;
+    numbered.remove(slot);
     Ok(None)
 }
 
@@ -132,18 +132,35 @@ fn agree(alloc: Global, one: &Numbered, other: &Numbered, axioms: &[Op]) -> Resu
     Ok(true)
 }
 
+/// The universe after the changes, and where its axioms are.
+fn changed(alloc: Global, keys: RandomState, axioms: &[Op]) -> Result<(Numbered, Places), Fail> {
+    let mut numbered = named(alloc, keys, axioms)?;
+    let places = change_all(alloc, &mut numbered, axioms)?;
+    Ok((numbered, places))
+}
+
+/// Whether all is as in a universe that is built anew with the axioms in these places.
+fn is_as_anew(
+    alloc: Global,
+    keys: RandomState,
+    axioms: &[Op],
+    numbered: &Numbered,
+    places: &Places,
+) -> Result<bool, Fail> {
+    let anew = anew(alloc, keys, axioms, places)?;
+    Ok(numbered.is_alike(&anew) && agree(alloc, numbered, &anew, axioms)?)
+}
+
 /// Whether after the changes all is as in a universe that is built anew.
-fn are_as_anew(alloc: Global, keys: RandomState, axioms: &[Op]) -> Result<bool, Fail> {
-    let mut changed = named(alloc, keys, axioms)?;
-    let places = change_all(alloc, &mut changed, axioms)?;
-    let anew = anew(alloc, keys, axioms, &places)?;
-    Ok(changed.is_alike(&anew) && agree(alloc, &changed, &anew, axioms)?)
+fn changed_is_as_anew(alloc: Global, keys: RandomState, axioms: &[Op]) -> Result<bool, Fail> {
+    let (numbered, places) = changed(alloc, keys, axioms)?;
+    is_as_anew(alloc, keys, axioms, &numbered, &places)
 }
 
 #[test]
 fn changes(rt: HostRuntime) -> Result<(), Fail> {
     let keys = RandomState::new(&rt)?;
     let axioms = logical(rt.alloc(), AXIOMS)?;
-    assert!(rt; are_as_anew(rt.alloc(), keys, axioms.ops())?);
+    assert!(rt; changed_is_as_anew(rt.alloc(), keys, axioms.ops())?);
     Ok(())
 }

@@ -94,11 +94,10 @@ impl Numbered {
     }
 
     /// Removes the axiom with this number, where there is one.
-    pub(crate) fn remove(&mut self, alloc: Global, slot: u32) -> Result<(), Memory> {
+    pub(crate) fn remove(&mut self, slot: u32) {
         if slot < MOST && self.universe.live(slot) {
-            self.universe.remove(alloc, slot)?;
+            self.universe.remove(slot);
         }
-        Ok(())
     }
 
     /// Begins again without axioms. Entities keep their numbers.
