@@ -1,11 +1,11 @@
 -- Rows of free slots.
-use Rattle.std.proofs.Common.{◌≡◌, ◌≢◌, ◌<◌, ◌≤◌, ◌==◌, not, ℕ, zero, suc, Bool, true, false, List, [], ◌∷◌, Option, None, Some, length, IsTrue, IsFalse, refl, sym, ap, ◌∙◌, inl, inr, arith, eqb-true, eq-eqb, ltb-true, ltb-false, nat_lt}
+use Rattle.std.proofs.Common.{◌≡◌, ◌<◌, ◌≤◌, not, ℕ, zero, suc, Bool, true, false, List, [], ◌∷◌, Option, None, Some, length, IsTrue, IsFalse, refl, ap, inl, inr, arith, ltb-true, ltb-false, nat_lt}
 use Rattle.std.specs.Prelude.{is_some}
 use Rattle.std.proofs.lemmas.List.{get_or_past}
 use Rattle.ad_theory.proofs.Members.{either, not_both}
 use Rattle.ad_bits.specs.Rows.{has, IsLeastFrom, HasNoneFrom}
 use Rattle.ad_slots.specs.Held.{Held}
-use Rattle.ad_slots.specs.Places.{is_held, least_free, IsReplaced}
+use Rattle.ad_slots.specs.Places.{is_held, least_free}
 use Rattle.ad_flat.specs.Free.{AreFree}
 
 -- the first slot that is free
@@ -34,13 +34,6 @@ other_false : (a b : Bool) → a ≡ not b → IsTrue a → IsFalse b
 other_false a true e t = absurd (not_both t e)
 other_false a false e t = refl
 
--- all slots are free
-pub all_free : (most : ℕ) (slots : List (Option Held)) (row : List Bool) → slots ≡ [] → length row ≡ most → ((i : ℕ) → i < most → IsTrue (has row i)) → AreFree most slots row
-all_free most slots row none size full = record {
-  size = size;
-  members = λ i l. full i l ∙ sym (ap not (past_is_free slots i (let e : length slots ≡ 0 = ap length none in omega arith)));
-}
-
 module _ (most : ℕ) (slots : List (Option Held)) (row : List Bool) (f : AreFree most slots row) where
   pub next_free : (i : ℕ) → IsLeastFrom row 0 i → i ≡ least_free slots
   next_free i least =
@@ -51,14 +44,3 @@ module _ (most : ℕ) (slots : List (Option Held)) (row : List Bool) (f : AreFre
 
   pub none_free : length slots ≤ most → HasNoneFrom row 0 → most ≡ least_free slots
   none_free within none = free_at slots most (λ j l. other_true (has row j) (is_held slots j) (f.members j l) (none j (omega arith))) (past_is_free slots most within)
-
-  -- one slot is replaced, in the row too
-  pub free_replaced : (i : ℕ) (x : Option Held) (after : List (Option Held)) (new : List Bool) → IsReplaced i x slots after → length new ≡ length row → has new i ≡ not (is_some x) → ((k : ℕ) → k ≢ i → has new k ≡ has row k)
-      → AreFree most after new
-  free_replaced i x after new r same here others = record {
-    size = same ∙ f.size;
-    members = λ j l. elim (either (j == i)) [
-      | inl t ↦ (let e : j ≡ i = eqb-true j i t in ap (has new) e ∙ here ∙ sym (ap (λ k. not (is_held after k)) e ∙ ap (λ o. not (is_some o)) r.here))
-      | inr n ↦ (let other : j ≢ i = λ e. not_both (eq-eqb j i e) n in others j other ∙ f.members j l ∙ sym (ap (λ o. not (is_some o)) (r.others j other)))
-    ];
-  }

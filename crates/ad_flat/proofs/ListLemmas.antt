@@ -1,9 +1,8 @@
 -- Lists of slots by symbols.
-use Rattle.std.proofs.Common.{◌≡◌, ◌≢◌, ◌<◌, ◌≤◌, ◌==◌, ◌||◌, ◌&&◌, not, ◌⊎◌, ◌++◌, ◌+◌, ℕ, zero, suc, Bool, true, false, List, [], ◌∷◌, length, get_or, take, Result, Ok, Err, IsTrue, IsFalse, refl, sym, ap, ◌∙◌, subst, inl, inr, arith, eqb-true, eq-eqb}
+use Rattle.std.proofs.Common.{◌≡◌, ◌≢◌, ◌<◌, ◌≤◌, ◌==◌, ◌||◌, ◌&&◌, not, ◌⊎◌, ◌+◌, ℕ, zero, suc, Bool, true, false, List, [], ◌∷◌, length, get_or, take, Result, Ok, Err, IsTrue, IsFalse, refl, sym, ap, ◌∙◌, subst, inl, inr, arith, eqb-true, eq-eqb}
 use Rattle.std.specs.Prelude.{IsOk, OnOk}
 use Rattle.std.specs.List.{slice_set}
-use Rattle.std.proofs.Math.Seq.{get_or-append_seam}
-use Rattle.std.proofs.lemmas.List.{get_or-set_same, get_or-set_other, get_or_append_left, take_more}
+use Rattle.std.proofs.lemmas.List.{get_or-set_same, get_or-set_other, take_more}
 use Rattle.std.proofs.lemmas.List.Folds.{list_any-append}
 use Rattle.smallvec.specs.SmallVec.{SmallVec, HasRoomFor}
 use Rattle.ad_theory.specs.Numbers.{among}
@@ -130,18 +129,3 @@ pub read_list : (lists : List (SmallVec ℕ)) (k : ℕ) (list : SmallVec ℕ) �
 read_list [] k list l is = absurd (omega arith)
 read_list (x ∷ lists) zero list l is = is
 read_list (x ∷ lists) (suc k) list l is = read_list lists k list (omega arith) is
-
--- one more list was copied
-pub copied_more : (lists copy after : List (SmallVec ℕ)) (k : ℕ) (list new : SmallVec ℕ) → length copy ≡ k → after ≡ copy ++ new ∷ [] → list ≡ list_at lists k → new.items ≡ list.items
-    → ((s : ℕ) → s < k → list_of copy s ≡ list_of lists s) → (s : ℕ) → s < k + 1 → list_of after s ≡ list_of lists s
-copied_more lists copy after k list new long is at same so_far s l = elim (either (s == k)) [
-  | inl t ↦ (
-      let e : k ≡ s = sym (eqb-true s k t) in
-      let there : list_at after k ≡ new = ap (λ ls. list_at ls k) is ∙ ap (list_at (copy ++ new ∷ [])) (sym long) ∙ get_or-append_seam copy new [] no_list in
-      subst (λ j. list_of after j ≡ list_of lists j) e (ap (λ v. v.items) there ∙ same ∙ ap (λ v. v.items) at))
-  | inr f ↦ (
-      let other : s ≢ k = λ e. not_both (eq-eqb s k e) f in
-      let below : s < k = omega arith in
-      let there : list_at after s ≡ list_at copy s = ap (λ ls. list_at ls s) is ∙ get_or_append_left copy (new ∷ []) no_list s (omega arith) in
-      ap (λ v. v.items) there ∙ so_far s below)
-]
