@@ -1,10 +1,9 @@
-pub mod DistinctLemmas
-pub mod NumberLemmas
+pub mod FreeLemmas
 pub mod ListLemmas
 pub mod SlotLemmas
+pub mod NumberLemmas
 pub mod AddingLemmas
+pub mod Crossing
 pub mod CarryLemmas
 pub mod TreeLemmas
 pub mod KindOfTreesLemmas
-pub mod AlikeLemmas
-pub mod Crossing

@@ -1,94 +1,131 @@
--- Lists of slots, one for each symbol.
-use Rattle.std.proofs.Common.{◌≡◌, ◌≢◌, ℕ, zero, suc, ◌+◌, ◌<◌, ◌≤◌, ◌==◌, Bool, true, false, cond, if◌then◌else◌, ◌||◌, ◌⊎◌, IsTrue, IsFalse, List, [], ◌∷◌, ◌++◌, append-nil, map, take, drop, set, length, get_or, refl, sym, ap, ◌∙◌, subst, inl, inr, eqb-true, eq-eqb, arith, add-one}
-use Rattle.std.proofs.lemmas.List.{drop_more, map-set, set-get_or, get_or-map, get_or-set_same, get_or-set_other, length-map, length-set, map_push, get_or_default}
+-- Lists of slots by symbols.
+use Rattle.std.proofs.Common.{◌≡◌, ◌≢◌, ◌<◌, ◌≤◌, ◌==◌, ◌||◌, ◌&&◌, not, ◌⊎◌, ◌+◌, ℕ, zero, suc, Bool, true, false, List, [], ◌∷◌, length, get_or, take, Result, Ok, Err, IsTrue, IsFalse, refl, sym, ap, ◌∙◌, subst, inl, inr, arith, eqb-true, eq-eqb}
+use Rattle.std.specs.Prelude.{IsOk, OnOk}
+use Rattle.std.specs.List.{slice_set}
+use Rattle.std.proofs.lemmas.List.{get_or-set_same, get_or-set_other, take_more}
+use Rattle.std.proofs.lemmas.List.Folds.{list_any-append}
+use Rattle.smallvec.specs.SmallVec.{SmallVec, HasRoomFor}
 use Rattle.ad_theory.specs.Numbers.{among}
 use Rattle.ad_theory.proofs.Members.{either, not_both, or_left, or_right, or_cases}
-use Rattle.ad_flat.specs.Distinct.{AreDistinctNumbers}
-use Rattle.ad_flat.proofs.DistinctLemmas.{or_none, number_decides, stands_at, stands_more, none_before, none_behind}
+use Rattle.ad_slots.specs.Rising.{IsWith, IsWithout}
+use Rattle.ad_flat.specs.Changes.{no_list, list_at, list_of, AreChanged}
 
--- the number at a place stands in the list
-pub among_at : (xs : List ℕ) (k : ℕ) → k < length xs → IsTrue (among xs (get_or xs k 0))
-among_at xs k l = stands_at (λ x y. x == y) number_decides xs k 0 l
+pub done_as : {A E : Type 0} (r : Result A E) (P : Type 0) → IsOk r → OnOk r P → P
+done_as (Ok x) P k p = p
+done_as (Err e) P k p = absurd (not_both k refl)
 
-pub among_more : (xs : List ℕ) (k s : ℕ) → k < length xs → among (take (k + 1) xs) s ≡ (among (take k xs) s || (get_or xs k 0 == s))
-among_more xs k s l = stands_more (λ x y. x == y) number_decides xs k 0 s l
+-- a number is missing where a list without it is the same
+pub missing : (n : ℕ) (xs : List ℕ) → IsWithout n xs xs → IsFalse (among xs n)
+missing n xs w = w.members n ∙ ap (λ b. not b && among xs n) (eq-eqb n n refl)
 
-among_rest : (xs : List ℕ) (k s : ℕ) → k < length xs → IsTrue (among (drop (k + 1) xs) s) → IsTrue (among (drop k xs) s)
-among_rest xs k s l t = rw (drop_more xs k 0 l) (or_right (get_or xs k 0 == s) (among (drop (k + 1) xs) s) t)
+pub has_number : (n : ℕ) (xs ys : List ℕ) → IsWith n xs ys → IsTrue (among ys n)
+has_number n xs ys w = w.members n ∙ or_left (n == n) (among xs n) (eq-eqb n n refl)
 
--- an empty list at the end
-pub empty_more : {A : Type 0} (lists : List (List A)) → ((s : ℕ) → get_or lists s [] ≡ []) → (s : ℕ) → get_or (lists ++ [] ∷ []) s [] ≡ []
-empty_more [] all zero = refl
-empty_more [] all (suc s) = refl
-empty_more (x ∷ lists) all zero = all 0
-empty_more (x ∷ lists) all (suc s) = empty_more lists (λ k. all (suc k)) s
+or_twice : (a b : Bool) → (a || (a || b)) ≡ (a || b)
+or_twice true b = refl
+or_twice false b = refl
 
-set_look : {A : Type 0} {B : Type 0} (f : A → B) (xs : List A) (i : ℕ) (d : A) → set (map f xs) i (f (get_or xs i d)) ≡ map f xs
-set_look f [] i d = refl
-set_look f (x ∷ xs) zero d = refl
-set_look f (x ∷ xs) (suc i) d = ap (λ l. f x ∷ l) (set_look f xs i d)
+and_twice : (a b : Bool) → (a && (a && b)) ≡ (a && b)
+and_twice true b = refl
+and_twice false b = refl
 
--- an element is replaced by one that looks the same
-pub same_look : {A : Type 0} {B : Type 0} (f : A → B) (xs : List A) (i : ℕ) (x y : A) → x ≡ get_or xs i x → f y ≡ f x → map f (set xs i y) ≡ map f xs
-same_look f xs i x y at e = map-set f xs i y ∙ ap (λ z. set (map f xs) i z) (e ∙ ap f at) ∙ set_look f xs i x
+pub with_twice : (n : ℕ) (xs ys zs : List ℕ) → IsWith n xs ys → IsWith n ys zs → IsWith n xs zs
+with_twice n xs ys zs v w = record {
+  rising = w.rising;
+  members = λ m. w.members m ∙ ap (λ b. (n == m) || b) (v.members m) ∙ or_twice (n == m) (among xs m);
+}
 
--- how the elements look after one was replaced
-look_here : {A : Type 0} {B : Type 0} (f : A → B) (xs : List A) (i : ℕ) (y : A) (d : B) → i < length xs → get_or (map f (set xs i y)) i d ≡ f y
-look_here f xs i y d l = ap (λ m. get_or m i d) (map-set f xs i y) ∙ get_or-set_same (map f xs) i (f y) d (omega (arith, length-map xs f))
+pub without_twice : (n : ℕ) (xs ys zs : List ℕ) → IsWithout n xs ys → IsWithout n ys zs → IsWithout n xs zs
+without_twice n xs ys zs v w = record {
+  rising = w.rising;
+  members = λ m. w.members m ∙ ap (λ b. not (n == m) && b) (v.members m) ∙ and_twice (not (n == m)) (among xs m);
+}
 
-look_other : {A : Type 0} {B : Type 0} (f : A → B) (xs : List A) (i : ℕ) (y : A) (s : ℕ) (d : B) → s ≢ i → get_or (map f (set xs i y)) s d ≡ get_or (map f xs) s d
-look_other f xs i y s d other = ap (λ m. get_or m s d) (map-set f xs i y) ∙ get_or-set_other (map f xs) i s (f y) d other
+pub among_at : (xs : List ℕ) (i : ℕ) → i < length xs → IsTrue (among xs (get_or xs i 0))
+among_at [] i l = absurd (omega arith)
+among_at (x ∷ xs) zero l = or_left (x == x) (among xs x) (eq-eqb x x refl)
+among_at (x ∷ xs) (suc i) l = or_right (x == get_or xs i 0) (among xs (get_or xs i 0)) (among_at xs i (omega arith))
 
-look_at : {A : Type 0} {B : Type 0} (f : A → B) (xs : List A) (i : ℕ) (x : A) (d : B) → i < length xs → x ≡ get_or xs i x → get_or (map f xs) i d ≡ f x
-look_at f xs i x d l at = get_or-map f xs i x d l ∙ ap f (sym at)
+-- one more symbol
+split_more : (xs : List ℕ) (k s : ℕ) → k < length xs → among (take (k + 1) xs) s ≡ (among (take k xs) s || ((get_or xs k 0 == s) || false))
+split_more xs k s l = ap (λ ys. among ys s) (take_more xs k 0 l) ∙ list_any-append (λ x. x == s) (take k xs) (get_or xs k 0 ∷ [])
 
--- the list of the next symbol has room
-pub room_here : {V : Type 0} (spare : V → ℕ) (lists : List V) (symbols : List ℕ) (k : ℕ) (old : V) → k < length symbols → get_or symbols k 0 < length lists → old ≡ get_or lists (get_or symbols k 0) old
-    → ((s : ℕ) → IsTrue (among (drop k symbols) s) → 0 < get_or (map spare lists) s 0) → 0 < spare old
-room_here spare lists symbols k old l within at rooms =
-    let x = get_or symbols k 0 in
-    let stands : IsTrue (among (drop k symbols) x) = rw (drop_more symbols k 0 l) (or_left (x == x) (among (drop (k + 1) symbols) x) (eq-eqb x x refl)) in
-    subst (λ n. 0 < n) (look_at spare lists x old 0 within at) (rooms x stands)
+pub among_more : (xs : List ℕ) (k s : ℕ) → k < length xs → IsTrue (among (take (k + 1) xs) s) → IsTrue (among (take k xs) s) ⊎ (get_or xs k 0 ≡ s)
+among_more xs k s l t = elim (or_cases (among (take k xs) s) ((get_or xs k 0 == s) || false) (sym (split_more xs k s l) ∙ t)) [
+  | inl a ↦ inl a
+  | inr b ↦ elim (or_cases (get_or xs k 0 == s) false b) [ inl e ↦ inr (eqb-true (get_or xs k 0) s e) | inr f ↦ absurd (not_both f refl) ]
+]
 
-module _ {V : Type 0} (spare : V → ℕ) (items : V → List ℕ) (lists : List V) (symbols : List ℕ) (k : ℕ) (new : V) (l : k < length symbols) (within : get_or symbols k 0 < length lists) where
-  abbrev x : ℕ
-  x = get_or symbols k 0
+pub last_among : (xs : List ℕ) (k : ℕ) → k < length xs → IsTrue (among (take (k + 1) xs) (get_or xs k 0))
+last_among xs k l = let at : ℕ = get_or xs k 0 in split_more xs k at l ∙ or_right (among (take k xs) at) ((at == at) || false) (or_left (at == at) false (eq-eqb at at refl))
 
-  -- the lists of one more symbol have room
-  pub room_more : 0 < spare new → ((s : ℕ) → IsTrue (among (take k symbols) s) → 0 < get_or (map spare lists) s 0)
-      → (s : ℕ) → IsTrue (among (take (k + 1) symbols) s) → 0 < get_or (map spare (set lists x new)) s 0
-  room_more room rooms s t = elim (either (x == s)) [
-    | inl e ↦ subst (λ z. 0 < get_or (map spare (set lists x new)) z 0) (eqb-true x s e) (subst (λ n. 0 < n) (sym (look_here spare lists x new 0 within)) room)
-    | inr f ↦ (let other : s ≢ x = λ q. not_both (eq-eqb x s (sym q)) f in
-        let before : among (take k symbols) s ≡ true = elim (or_cases (among (take k symbols) s) (x == s) (sym (among_more symbols k s l) ∙ t)) [ inl h ↦ h | inr h ↦ absurd (not_both h f) ] in
-        subst (λ n. 0 < n) (sym (look_other spare lists x new s 0 other)) (rooms s before))
+pub earlier_none : (xs : List ℕ) (k s : ℕ) → k < length xs → IsFalse (among (take (k + 1) xs) s) → IsFalse (among (take k xs) s)
+earlier_none xs k s l f = elim (either (among (take k xs) s)) [
+  | inl t ↦ absurd (not_both (split_more xs k s l ∙ or_left (among (take k xs) s) ((get_or xs k 0 == s) || false) t) f)
+  | inr n ↦ n
+]
+
+pub bound_more : (xs : List ℕ) (k old new : ℕ) → k < length xs → ((s : ℕ) → IsTrue (among (take k xs) s) → s < old) → old ≤ new → get_or xs k 0 < new → (s : ℕ) → IsTrue (among (take (k + 1) xs) s) → s < new
+bound_more xs k old new l above more here s t = elim (among_more xs k s l t) [
+  | inl a ↦ (let b : s < old = above s a in omega arith)
+  | inr e ↦ subst (λ j. j < new) e here
+]
+
+pub least_more : (xs : List ℕ) (k old new : ℕ) → k < length xs → ((bound : ℕ) → ((s : ℕ) → IsTrue (among xs s) → s < bound) → old ≤ bound) → (new ≡ old) ⊎ (new ≡ get_or xs k 0 + 1) → (bound : ℕ) → ((s : ℕ) → IsTrue (among xs s) → s < bound) → new ≤ bound
+least_more xs k old new l least (inl e) bound above = let b : old ≤ bound = least bound above in omega arith
+least_more xs k old new l least (inr e) bound above = let b : get_or xs k 0 < bound = above (get_or xs k 0) (among_at xs k l) in omega arith
+
+-- one list was written
+module _ (before : List (SmallVec ℕ)) (at : ℕ) (list : SmallVec ℕ) (below : at < length before) where
+  pub list_here : list_at (slice_set before at list) at ≡ list
+  list_here = get_or-set_same before at list no_list below
+
+  pub list_elsewhere : (s : ℕ) → s ≢ at → list_at (slice_set before at list) s ≡ list_at before s
+  list_elsewhere s other = get_or-set_other before at s list no_list other
+
+  -- what holds of this list and of all others holds of each
+  pub for_each : (P : ℕ → SmallVec ℕ → Type 0) → P at list → ((s : ℕ) → s ≢ at → P s (list_at before s)) → (s : ℕ) → P s (list_at (slice_set before at list) s)
+  for_each P here others s = elim (either (s == at)) [
+    | inl t ↦ (let e : at ≡ s = sym (eqb-true s at t) in subst (λ k. P k (list_at (slice_set before at list) k)) e (subst (λ l. P at l) (sym list_here) here))
+    | inr f ↦ (let other : s ≢ at = λ e. not_both (eq-eqb s at e) f in subst (λ l. P s l) (sym (list_elsewhere s other)) (others s other))
   ]
 
-  module _ (distinct : AreDistinctNumbers symbols) where
-    -- the lists of the symbols that are left have room
-    pub room_rest : ((s : ℕ) → IsTrue (among (drop k symbols) s) → 0 < get_or (map spare lists) s 0)
-        → (s : ℕ) → IsTrue (among (drop (k + 1) symbols) s) → 0 < get_or (map spare (set lists x new)) s 0
-    room_rest rooms s t =
-        let none : among (drop (k + 1) symbols) x ≡ false = rw add-one (none_behind (λ a b. a == b) number_decides symbols k 0 l distinct) in
-        let other : s ≢ x = λ q. not_both (subst (λ z. IsTrue (among (drop (k + 1) symbols) z)) q t) none in
-        subst (λ n. 0 < n) (sym (look_other spare lists x new s 0 other)) (rooms s (among_rest symbols k s l t))
+  pub same_lists : list.items ≡ list_of before at → (s : ℕ) → list_of (slice_set before at list) s ≡ list_of before s
+  same_lists same = for_each (λ s l. l.items ≡ list_of before s) same (λ s other. refl)
 
-    -- one more slot stands in one more list
-    pub entered_more : (initial : List (List ℕ)) (slot : ℕ) (old : V) → old ≡ get_or lists x old → items new ≡ items old ++ slot ∷ []
-        → (s : ℕ) → get_or (map items lists) s [] ≡ get_or initial s [] ++ (if among (take k symbols) s then slot ∷ [] else [])
-        → get_or (map items (set lists x new)) s [] ≡ get_or initial s [] ++ (if among (take (k + 1) symbols) s then slot ∷ [] else [])
-    entered_more initial slot old at pushed s before = elim (either (x == s)) [
-      | inl e ↦ subst (λ z. get_or (map items lists) z [] ≡ get_or initial z [] ++ (if among (take k symbols) z then slot ∷ [] else [])
-          → get_or (map items (set lists x new)) z [] ≡ get_or initial z [] ++ (if among (take (k + 1) symbols) z then slot ∷ [] else [])) (eqb-true x s e)
-          (λ was.
-          let none : among (take k symbols) x ≡ false = none_before (λ a b. a == b) number_decides symbols k 0 l distinct in
-          let now : among (take (k + 1) symbols) x ≡ true = among_more symbols k x l ∙ or_right (among (take k symbols) x) (x == x) (eq-eqb x x refl) in
-          look_here items lists x new [] within
-          ∙ pushed
-          ∙ ap (λ m. m ++ slot ∷ []) (sym (look_at items lists x old [] within at) ∙ was ∙ ap (λ b. get_or initial x [] ++ (if b then slot ∷ [] else [])) none ∙ append-nil (get_or initial x []))
-          ∙ ap (λ b. get_or initial x [] ++ (if b then slot ∷ [] else [])) (sym now))
-          before
-      | inr f ↦ (let other : s ≢ x = λ q. not_both (eq-eqb x s (sym q)) f in
-          let same : among (take (k + 1) symbols) s ≡ among (take k symbols) s = among_more symbols k s l ∙ ap (λ b. among (take k symbols) s || b) f ∙ or_none (among (take k symbols) s) in
-          look_other items lists x new s [] other ∙ before ∙ ap (λ b. get_or initial s [] ++ (if b then slot ∷ [] else [])) (sym same))
+  module _ (change : List ℕ → List ℕ → Type 0) (follows : (xs ys zs : List ℕ) → change xs ys → change ys zs → change xs zs) (symbols : List ℕ) (k : ℕ) (first : List (SmallVec ℕ))
+      (within : k < length symbols) (here : get_or symbols k 0 ≡ at) (made : change (list_of before at) list.items) (so_far : AreChanged change (take k symbols) first before) where
+    first_at : change (list_of first at) list.items
+    first_at = elim (either (among (take k symbols) at)) [
+      | inl t ↦ follows (list_of first at) (list_of before at) list.items (so_far.touched at t) made
+      | inr f ↦ subst (λ xs. change xs list.items) (so_far.others at f) made
     ]
+
+    touched_so_far : (s : ℕ) → s ≢ at → IsTrue (among (take (k + 1) symbols) s) → change (list_of first s) (list_of before s)
+    touched_so_far s other t = elim (among_more symbols k s within t) [
+      | inl a ↦ so_far.touched s a
+      | inr e ↦ absurd (other (sym e ∙ here))
+    ]
+
+    -- the lists of one more symbol have changed
+    pub changed_more : AreChanged change (take (k + 1) symbols) first (slice_set before at list)
+    changed_more = record {
+      touched = for_each (λ s l. IsTrue (among (take (k + 1) symbols) s) → change (list_of first s) l.items) (λ t. first_at) touched_so_far;
+      others = for_each (λ s l. IsFalse (among (take (k + 1) symbols) s) → l.items ≡ list_of first s)
+          (λ f. absurd (not_both (subst (λ j. IsTrue (among (take (k + 1) symbols) j)) here (last_among symbols k within)) f))
+          (λ s other f. so_far.others s (earlier_none symbols k s within f));
+    }
+
+-- the list of one more symbol has room
+pub room_more : (symbols : List ℕ) (k at : ℕ) (before : List (SmallVec ℕ)) (list : SmallVec ℕ) → at < length before → k < length symbols → get_or symbols k 0 ≡ at → HasRoomFor list 1
+    → ((s : ℕ) → IsTrue (among (take k symbols) s) → HasRoomFor (list_at before s) 1) → (s : ℕ) → IsTrue (among (take (k + 1) symbols) s) → HasRoomFor (list_at (slice_set before at list) s) 1
+room_more symbols k at before list below within here room so_far = for_each before at list below (λ s l. IsTrue (among (take (k + 1) symbols) s) → HasRoomFor l 1) (λ t. room) (λ s other t. elim (among_more symbols k s within t) [
+  | inl a ↦ so_far s a
+  | inr e ↦ absurd (other (sym e ∙ here))
+])
+
+-- the list of a symbol, where it is read
+pub read_list : (lists : List (SmallVec ℕ)) (k : ℕ) (list : SmallVec ℕ) → k < length lists → list ≡ get_or lists k list → list ≡ list_at lists k
+read_list [] k list l is = absurd (omega arith)
+read_list (x ∷ lists) zero list l is = is
+read_list (x ∷ lists) (suc k) list l is = read_list lists k list (omega arith) is

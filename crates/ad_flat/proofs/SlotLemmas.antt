@@ -1,72 +1,72 @@
--- One more slot holds an axiom.
-use Rattle.std.proofs.Common.{◌≡◌, ℕ, zero, suc, ◌+◌, ◌<◌, ◌≤◌, ◌==◌, Bool, true, false, cond, if◌then◌else◌, not, IsTrue, List, [], ◌∷◌, ◌++◌, map, length, get_or, Option, Some, refl, sym, ap, ◌∙◌, subst, inl, inr, eqb-true, arith}
-use Rattle.std.specs.List.{list_any}
-use Rattle.std.specs.Option.{unwrap_or}
+-- Slots with their lists, where an axiom comes or leaves.
+use Rattle.std.proofs.Common.{◌≡◌, ◌<◌, ℕ, Bool, false, List, Option, None, Some, IsTrue, IsFalse, refl, sym, ap, ◌∙◌, subst, inl, inr}
+use Rattle.std.specs.Prelude.{is_some}
+use Rattle.std.specs.Ordering.{nat_cmp}
+use Rattle.std.specs.List.Sorted.{IsStrictlySortedBy}
+use Rattle.smallvec.specs.SmallVec.{SmallVec}
+use Rattle.ad_base.specs.declared.limits.Side.{Side}
 use Rattle.ad_theory.specs.Numbers.{among}
-use Rattle.ad_theory.proofs.Members.{not_both, or_left, or_right, or_cases}
-use Rattle.ad_entity.specs.Entities.{same_entity}
-use Rattle.ad_locality.specs.Signature.{occurrences, in_signature}
-use Rattle.ad_tree.specs.declared.axioms.Axiom.{Axiom}
-use Rattle.ad_entity.specs.declared.entities.Entity.{Entity}
-use Rattle.ad_syntax_laws.proofs.EntityLemmas.{same_entity_of}
-use Rattle.ad_signature.specs.Firsts.{firsts}
-use Rattle.ad_flat.specs.Distinct.{AreDistinctNumbers}
-use Rattle.ad_flat.specs.Held.{Held, IsNumberedBelow}
-use Rattle.ad_flat.specs.Places.{AreHeldBelow, IsIndexed, held_slots, held_symbols, slots_where}
-use Rattle.ad_flat.proofs.DistinctLemmas.{distinct_firsts, first_stands, distinct_numbers}
+use Rattle.ad_theory.proofs.Members.{either, not_both}
+use Rattle.ad_slots.specs.Held.{Held, IsCovered}
+use Rattle.ad_slots.specs.Rising.{IsWith, IsWithout}
+use Rattle.ad_slots.specs.Places.{slot_at, is_held, held_symbols, has_symbol, held_slots, is_global, held_globals, AreCovered, AreHeldBelow, IsReplaced}
+use Rattle.ad_slots.proofs.PlaceLemmas.{rising_where}
+use Rattle.ad_slots.proofs.ChangeLemmas.{put_where, taken_where, kept_where, still_below, still_covered}
+use Rattle.ad_flat.specs.Changes.{list_of, AreChanged}
 
-pub where_length : (test : Held → Bool) (n : ℕ) (held : List Held) → length (slots_where test n held) ≤ length held
-where_length test n [] = omega arith
-where_length test n (h ∷ held) =
-    let rest : length (slots_where test (suc n) held) ≤ length held = where_length test (suc n) held in
-    elim (test h) as (λ b. length (cond b (n ∷ slots_where test (suc n) held) (slots_where test (suc n) held)) ≤ suc (length held)) [ true ↦ omega arith | false ↦ omega arith ]
+pub rising_list : (lists : List (SmallVec ℕ)) (slots : List (Option Held)) → ((s : ℕ) → list_of lists s ≡ held_slots slots s) → (s : ℕ) → IsStrictlySortedBy nat_cmp (list_of lists s)
+rising_list lists slots indexed s = subst (λ xs. IsStrictlySortedBy nat_cmp xs) (sym (indexed s)) (rising_where (has_symbol s) slots)
 
--- the new slot stands at the end, where its axiom passes
-pub where_more : (test : Held → Bool) (n : ℕ) (held : List Held) (h : Held) (m : ℕ) → m ≡ n + length held
-    → slots_where test n (held ++ h ∷ []) ≡ slots_where test n held ++ (if test h then m ∷ [] else [])
-where_more test n [] h m e = let at : n ≡ m = omega arith in ap (λ k. cond (test h) (k ∷ []) []) at
-where_more test n (x ∷ held) h m e =
-    let rest : slots_where test (suc n) (held ++ h ∷ []) ≡ slots_where test (suc n) held ++ (if test h then m ∷ [] else []) = where_more test (suc n) held h m (omega arith) in
-    elim (test x) as (λ b. cond b (n ∷ slots_where test (suc n) (held ++ h ∷ [])) (slots_where test (suc n) (held ++ h ∷ []))
-    ≡ cond b (n ∷ slots_where test (suc n) held) (slots_where test (suc n) held) ++ (if test h then m ∷ [] else [])) [ true ↦ ap (λ l. n ∷ l) rest | false ↦ rest ]
+pub rising_globals : (list : List ℕ) (slots : List (Option Held)) (side : Side) → list ≡ held_globals slots side → IsStrictlySortedBy nat_cmp list
+rising_globals list slots side is = subst (λ xs. IsStrictlySortedBy nat_cmp xs) (sym is) (rising_where (is_global side) slots)
 
-pub below_more : (symbols : ℕ) (held : List Held) (h : Held) → AreHeldBelow symbols held → ((s : ℕ) → IsTrue (among h.symbols s) → s < symbols) → AreHeldBelow symbols (held ++ h ∷ [])
-below_more symbols [] h old new zero s t = new s t
-below_more symbols [] h old new (suc i) s t = absurd (not_both t refl)
-below_more symbols (x ∷ held) h old new zero s t = old 0 s t
-below_more symbols (x ∷ held) h old new (suc i) s t = below_more symbols held h (λ k. old (suc k)) new i s t
+fails_free : (test : Option Held → Bool) → test None ≡ false → (slot : Option Held) → IsFalse (is_some slot) → test slot ≡ false
+fails_free test free None vacant = free
+fails_free test free (Some h) vacant = absurd (not_both refl vacant)
 
-pub indexed_more : (symbols : ℕ) (held : List Held) (h : Held) (lists lists' : List (List ℕ)) (next : ℕ) → next ≡ length held → IsIndexed symbols held lists → length lists' ≡ symbols
-    → ((s : ℕ) → s < symbols → get_or lists' s [] ≡ get_or lists s [] ++ (if among h.symbols s then next ∷ [] else [])) → IsIndexed symbols (held ++ h ∷ []) lists'
-indexed_more symbols held h lists lists' next at old long entered = record {
-  long = long;
-  each = λ s below. entered s below
-      ∙ ap (λ l. l ++ (if among h.symbols s then next ∷ [] else [])) (old.each s below)
-      ∙ sym (where_more (λ k. among k.symbols s) 0 held h next (omega arith));
-}
+some_is : (x y : Held) → Some x ≡ Some y → x ≡ y
+some_is x y e = cc
 
--- an axiom whose entities are named
-module _ (symbols : ℕ) (number : Entity → Option ℕ) (a : Axiom) (named : IsNumberedBelow symbols number a) where
-  abbrev f : Entity → ℕ
-  f e = unwrap_or (number e) 0
+none_is_none : (h : Held) → None ≡ Some h → ⊥
+none_is_none h e = cc
 
-  numbers_below : (es : List Entity) → ((e : Entity) → IsTrue (list_any (λ x. same_entity x e) es) → IsTrue (in_signature a e)) → (s : ℕ) → IsTrue (among (map f es) s) → s < symbols
-  numbers_below [] within s t = absurd (not_both t refl)
-  numbers_below (e ∷ es) within s t = elim (or_cases (f e == s) (among (map f es) s) t) [
-    | inl q ↦ (let n = named.below e (within e (or_left (same_entity e e) (list_any (λ x. same_entity x e) es) (same_entity_of e e refl))) in
-        let at : n.0 ≡ s = sym (ap (λ o. unwrap_or o 0) n.1) ∙ eqb-true (f e) s q in
-        subst (λ k. k < symbols) at n.2)
-    | inr h ↦ numbers_below es (λ x k. within x (or_right (same_entity e x) (list_any (λ y. same_entity y x) es) k)) s h
+-- an axiom comes to a free slot
+module _ (i : ℕ) (h : Held) (old new : List (Option Held)) (r : IsReplaced i (Some h) old new) (vacant : IsFalse (is_held old i)) where
+  pub put_indexed : (symbols : List ℕ) (lists after : List (SmallVec ℕ)) → symbols ≡ h.symbols → ((s : ℕ) → list_of lists s ≡ held_slots old s) → AreChanged (IsWith i) symbols lists after
+      → (s : ℕ) → list_of after s ≡ held_slots new s
+  put_indexed symbols lists after same indexed changed s = elim (either (among symbols s)) [
+    | inl t ↦ put_where (has_symbol s) refl i (Some h) old new r (list_of after s) (sym (ap (λ xs. among xs s) same) ∙ t)
+        (subst (λ xs. IsWith i xs (list_of after s)) (indexed s) (changed.touched s t))
+    | inr f ↦ changed.others s f ∙ indexed s ∙ kept_where (has_symbol s) refl i (Some h) old new r (sym (ap (λ xs. among xs s) same) ∙ f) (fails_free (has_symbol s) refl (slot_at old i) vacant)
   ]
 
-  pub symbols_below : (s : ℕ) → IsTrue (among (map f (firsts (occurrences a))) s) → s < symbols
-  symbols_below = numbers_below (firsts (occurrences a)) (first_stands (occurrences a))
+  pub put_globals : (side : Side) (is : Bool) (list after : List ℕ) → is ≡ is_global side (Some h) → list ≡ held_globals old side → (IsTrue is → IsWith i list after) → (IsFalse is → after ≡ list) → after ≡ held_globals new side
+  put_globals side is list after says same present absent = elim (either is) [
+    | inl t ↦ put_where (is_global side) refl i (Some h) old new r after (sym says ∙ t) (subst (λ xs. IsWith i xs after) same (present t))
+    | inr f ↦ absent f ∙ same ∙ kept_where (is_global side) refl i (Some h) old new r (sym says ∙ f) (fails_free (is_global side) refl (slot_at old i) vacant)
+  ]
 
-  its_number : (e : Entity) → IsTrue (in_signature a e) → number e ≡ Some (f e)
-  its_number e t = let n = named.below e t in n.1 ∙ ap Some (sym (ap (λ o. unwrap_or o 0) n.1))
+  pub put_below : (symbols : List ℕ) (bound after : ℕ) → after ≡ bound → AreHeldBelow bound old → ((s : ℕ) → IsTrue (among h.symbols s) → s < bound) → AreHeldBelow after new
+  put_below symbols bound after same olds news = subst (λ n. AreHeldBelow n new) (sym same) (still_below i (Some h) old new r bound olds news)
 
-  pub symbols_distinct : AreDistinctNumbers (map f (firsts (occurrences a)))
-  symbols_distinct = distinct_numbers f (firsts (occurrences a))
-      (λ x y s t q. named.distinct x y (first_stands (occurrences a) x s) (first_stands (occurrences a) y t)
-      (its_number x (first_stands (occurrences a) x s) ∙ ap Some q ∙ sym (its_number y (first_stands (occurrences a) y t))))
-      (distinct_firsts (occurrences a))
+  pub put_covered : AreCovered old → IsCovered h.code h.symbols → AreCovered new
+  put_covered olds covers = still_covered i (Some h) old new r olds (λ k e. subst (λ j. IsCovered j.code j.symbols) (some_is h k e) covers)
+
+-- a slot is freed
+module _ (i : ℕ) (old new : List (Option Held)) (r : IsReplaced i None old new) where
+  pub freed_indexed : (symbols : List ℕ) (lists after : List (SmallVec ℕ)) → symbols ≡ held_symbols old i → ((s : ℕ) → list_of lists s ≡ held_slots old s) → AreChanged (IsWithout i) symbols lists after
+      → (s : ℕ) → list_of after s ≡ held_slots new s
+  freed_indexed symbols lists after same indexed changed s = elim (either (among symbols s)) [
+    | inl t ↦ taken_where (has_symbol s) refl i None old new r (list_of after s) refl
+        (subst (λ xs. IsWithout i xs (list_of after s)) (indexed s) (changed.touched s t))
+    | inr f ↦ changed.others s f ∙ indexed s ∙ kept_where (has_symbol s) refl i None old new r refl (sym (ap (λ xs. among xs s) same) ∙ f)
+  ]
+
+  pub freed_globals : (side : Side) (list after : List ℕ) → list ≡ held_globals old side → IsWithout i list after → after ≡ held_globals new side
+  freed_globals side list after same gone = taken_where (is_global side) refl i None old new r after refl (subst (λ xs. IsWithout i xs after) same gone)
+
+  pub freed_below : (bound after : ℕ) → after ≡ bound → AreHeldBelow bound old → AreHeldBelow after new
+  freed_below bound after same olds = subst (λ n. AreHeldBelow n new) (sym same) (still_below i None old new r bound olds (λ t stands. absurd (not_both stands refl)))
+
+  pub freed_covered : AreCovered old → AreCovered new
+  freed_covered olds = still_covered i None old new r olds (λ k e. absurd (none_is_none k e))

@@ -1,6 +1,6 @@
-pub mod Distinct
-pub mod Held
-pub mod Places
-pub mod Numbering
-pub mod Trees
+pub mod Changes
+pub mod Free
+pub mod Holds
 pub mod Laws
+pub mod Refused
+pub mod Trees

@@ -1,20 +1,23 @@
-ghost use Rattle.std.specs.Prelude.{◌≡◌, ◌<◌, ◌≤◌, ◌++◌, ◌∷◌, [], ℕ, Some, length, IfOk, OnOk, OnErr, IsTrue, IsSome};
+ghost use Rattle.std.specs.Prelude.{◌≡◌, ◌≢◌, ◌<◌, ◌≤◌, ℕ, Some, IsSome, IfOk, IfErr, OnOk, OnErr, IsTrue, IsFalse};
 ghost use Rattle.ad_entity.specs.Entities.{has_entity};
-ghost use Rattle.ad_tree.specs.Logical.{is_logical};
 ghost use Rattle.ad_entity.specs.declared.entities.Entity.{Entity};
+ghost use Rattle.ad_locality.specs.Signature.{in_signature};
 ghost use Rattle.ad_signature.specs.Numbering.{number_in};
-ghost use Rattle.ad_flat.specs.Held.{held_by};
+ghost use Rattle.ad_slots.specs.Places.{slot_at, least_free};
+ghost use Rattle.ad_flat.specs.Holds.{Holds};
+ghost use Rattle.ad_flat.specs.Refused.{IsRefusedForOneOf};
 
 use crate::flat::FlatUniverse;
-use crate::tables::Tables;
 use ad_base::Memory;
 use ad_signature::{SymbolRefused, Symbols, signature};
 use ad_tree::{Entity, Noted};
 use std::alloc::Global;
 
-// Enters each of these entities.
+// Enters each of these entities, and no others.
 fn enter_all(alloc: Global, symbols: &mut Symbols, entities: &[Entity]) -> Result<(), SymbolRefused>
     ensures named { OnOk result ((e : Entity) → IsTrue (has_entity entities.now e) → IsSome (number_in symbols.new.names e)) }
+    ensures refused { IfErr result (IsRefusedForOneOf (has_entity entities.now) symbols.old.limit symbols.new.names) }
+    ensures only { (e : Entity) → IsFalse (has_entity entities.now e) → number_in symbols.new.names e ≡ number_in symbols.old.names e }
     ensures kept { (e : Entity) (n : ℕ) → number_in symbols.old.names e ≡ Some n → number_in symbols.new.names e ≡ Some n }
     ensures limit { symbols.new.limit ≡ symbols.old.limit }
 {
@@ -24,20 +27,23 @@ fn enter_all(alloc: Global, symbols: &mut Symbols, entities: &[Entity]) -> Resul
     Ok(())
 }
 
-/// Enters the entities of a logical axiom, and puts it with their numbers into the next slot. After a refusal some of the
+/// Enters the entities of an axiom, and puts it with their numbers into the least free slot. After a refusal some of its
 /// entities may have been entered.
-pub fn add<T: Tables>(
+pub fn add(
     alloc: Global,
-    universe: &mut FlatUniverse<T>,
+    universe: &mut FlatUniverse,
     symbols: &mut Symbols,
     noted: &Noted,
 ) -> Result<u32, SymbolRefused>
-    requires logical { IsTrue (is_logical noted.now.axiom) }
-    requires room { length universe.old.slots.held.items < universe.old.slots.most }
+    requires room { least_free universe.old.slots.entries.items < universe.old.slots.most }
     requires limit { symbols.old.limit ≤ universe.old.slots.symbols }
-    ensures next { IfOk result (λ i. i ≡ length universe.old.slots.held.items) }
-    ensures ok { OnOk result (universe.new.slots.held.items ≡ universe.old.slots.held.items ++ held_by (number_in symbols.new.names) noted.now ∷ []) }
-    ensures err { OnErr result (universe.new.slots.held.items ≡ universe.old.slots.held.items) }
+    ensures next { IfOk result (λ i. i ≡ least_free universe.old.slots.entries.items) }
+    ensures held { IfOk result (λ i. Holds (number_in symbols.new.names) universe.new.slots.entries.items i noted.now.axiom) }
+    ensures others { IfOk result (λ i. (j : ℕ) → j ≢ i → slot_at universe.new.slots.entries.items j ≡ slot_at universe.old.slots.entries.items j) }
+    ensures err { OnErr result (universe.new.slots.entries.items ≡ universe.old.slots.entries.items) }
+    ensures named { OnOk result ((e : Entity) → IsTrue (in_signature noted.now.axiom e) → IsSome (number_in symbols.new.names e)) }
+    ensures refused { IfErr result (IsRefusedForOneOf (in_signature noted.now.axiom) symbols.old.limit symbols.new.names) }
+    ensures only { (e : Entity) → IsFalse (in_signature noted.now.axiom e) → number_in symbols.new.names e ≡ number_in symbols.old.names e }
     ensures kept { (e : Entity) (n : ℕ) → number_in symbols.old.names e ≡ Some n → number_in symbols.new.names e ≡ Some n }
     ensures limit { symbols.new.limit ≡ symbols.old.limit }
     ensures slots { universe.new.slots.most ≡ universe.old.slots.most }

@@ -1,91 +1,120 @@
-ghost use Rattle.std.specs.Prelude.{◌≡◌, ◌<◌, ◌++◌, ◌∷◌, [], length, IfOk, OnOk, OnErr, IsTrue};
+ghost use Rattle.std.specs.Prelude.{◌≡◌, ◌≢◌, ◌<◌, ℕ, [], None, IfOk, OnErr, IsTrue};
 ghost use Rattle.ad_base.specs.Limits.{AreWithinStandard};
-ghost use Rattle.ad_tree.specs.Logical.{is_logical};
-ghost use Rattle.ad_flat.specs.Held.{held_by, IsNumberedBelow};
-ghost use Rattle.ad_flat.specs.Places.{is_held, held_symbols, held_slots, held_globals, is_held_local};
-ghost use Rattle.ad_flat.specs.Laws as laws;
+ghost use Rattle.ad_slots.specs.Places.{slot_at, is_held, held_symbols, held_slots, held_globals, is_held_local, least_free, IsReplaced};
+ghost use Rattle.ad_cells.proofs.StackLemmas as codes;
+ghost use Rattle.ad_slots.proofs.PlaceLemmas as laws;
+ghost use Rattle.ad_flat.specs.Holds.{Holds, IsNumberedBelow};
+ghost use Rattle.ad_flat.specs.Laws as own;
 
-use crate::slot::Slot;
+use crate::axioms::slot_of;
 use crate::slots::Slots;
-use crate::tables::Tables;
 use ad_base::{Limits, Memory, Side};
 use ad_bits::Row;
 use ad_theory::{Tally, Universe, empty_row};
 use ad_tree::{Naming, Noted};
 use std::alloc::Global;
-use std::marker::PhantomData;
 
-/// The axioms of an ontology, numbered from 0 on in the order in which they came. Locality is read from `T`.
+/// The axioms of an ontology in numbered slots. An axiom keeps its slot until it is removed, and then the slot is free.
 #[derive(Drop)]
-pub struct FlatUniverse<T: Tables> {
+pub struct FlatUniverse {
     slots: Slots,
-    tables: PhantomData<T>,
 }
 
-impl<T: Tables> FlatUniverse<T> {
+impl FlatUniverse {
     /// The universe without axioms, for as many axioms and entities as the limits allow.
-    pub fn empty(alloc: Global, limits: &Limits) -> Result<FlatUniverse<T>, Memory>
+    pub fn empty(alloc: Global, limits: &Limits) -> Result<FlatUniverse, Memory>
         requires { AreWithinStandard limits.now }
         ensures slots { IfOk result (λ universe. universe.slots.most ≡ limits.now.axioms) }
         ensures symbols { IfOk result (λ universe. universe.slots.symbols ≡ limits.now.entities) }
-        ensures empty { IfOk result (λ universe. universe.slots.held.items ≡ []) }
+        ensures empty { IfOk result (λ universe. universe.slots.entries.items ≡ []) }
     {
         Ok(FlatUniverse {
             slots: Slots::new(alloc, limits)?,
-            tables: PhantomData,
         })
     }
 
-    /// Puts a logical axiom into the next slot, with the numbers that its entities have, and says which slot it is.
+    /// The least free slot; if it is past all slots that there are, none is free.
+    pub fn next(&self) -> usize
+        ensures { result ≡ least_free self.now.slots.entries.items }
+    {
+        self.slots.next()
+    }
+
+    /// Puts an axiom into the least free slot, with the numbers that its entities have, and says which slot it is. After
+    /// want of memory all slots are as before.
     pub fn insert<N: Naming>(
         &mut self,
         alloc: Global,
         noted: &Noted,
         names: &N,
     ) -> Result<u32, Memory>
-        requires logical { IsTrue (is_logical noted.now.axiom) }
-        requires room { length self.old.slots.held.items < self.old.slots.most }
+        requires room { least_free self.old.slots.entries.items < self.old.slots.most }
         requires named { IsNumberedBelow self.old.slots.symbols (N.number_of names.now) noted.now.axiom }
-        ensures next { IfOk result (λ i. i ≡ length self.old.slots.held.items) }
-        ensures ok { OnOk result (self.new.slots.held.items ≡ self.old.slots.held.items ++ held_by (N.number_of names.now) noted.now ∷ []) }
-        ensures err { OnErr result (self.new.slots.held.items ≡ self.old.slots.held.items) }
+        ensures next { IfOk result (λ i. i ≡ least_free self.old.slots.entries.items) }
+        ensures held { IfOk result (λ i. Holds (N.number_of names.now) self.new.slots.entries.items i noted.now.axiom) }
+        ensures others { IfOk result (λ i. (j : ℕ) → j ≢ i → slot_at self.new.slots.entries.items j ≡ slot_at self.old.slots.entries.items j) }
+        ensures err { OnErr result (self.new.slots.entries.items ≡ self.old.slots.entries.items) }
         ensures slots { self.new.slots.most ≡ self.old.slots.most }
         ensures symbols { self.new.slots.symbols ≡ self.old.slots.symbols }
     {
-        let slot = Slot::make(alloc, noted, names)?;
+        let slot = slot_of(alloc, noted, names)?;
         let nothing = empty_row(alloc, 0)?;
-        let is_bottom_global = !slot.is_local::<T>(Side::Bottom, &nothing);
-        let is_top_global = !slot.is_local::<T>(Side::Top, &nothing);
-        self.slots.add(slot, is_bottom_global, is_top_global)
+        let is_bottom_global = !slot.is_local(Side::Bottom, &nothing);
+        let is_top_global = !slot.is_local(Side::Top, &nothing);
+        let i = self.slots.next() as u32;
+        self.slots
+            .put(alloc, i, slot, is_bottom_global, is_top_global)?;
+        Ok(i)
+    }
+
+    /// Frees a slot that holds an axiom. It takes no memory.
+    pub fn remove(&mut self, i: u32)
+        requires { IsTrue (is_held self.old.slots.entries.items i) }
+        ensures freed { IsReplaced i None self.old.slots.entries.items self.new.slots.entries.items }
+        ensures slots { self.new.slots.most ≡ self.old.slots.most }
+        ensures symbols { self.new.slots.symbols ≡ self.old.slots.symbols }
+    {
+        self.slots.remove(i);
+    }
+
+    /// The same universe once more. It shares axioms with this one.
+    pub fn copy(&self, alloc: Global) -> Result<FlatUniverse, Memory>
+        ensures entries { IfOk result (λ copy. copy.slots.entries.items ≡ self.now.slots.entries.items) }
+        ensures slots { IfOk result (λ copy. copy.slots.most ≡ self.now.slots.most) }
+        ensures symbols { IfOk result (λ copy. copy.slots.symbols ≡ self.now.slots.symbols) }
+    {
+        Ok(FlatUniverse {
+            slots: self.slots.copy(alloc)?,
+        })
     }
 }
 
-impl<T: Tables> Universe for FlatUniverse<T> {
+impl Universe for FlatUniverse {
     ghost slot_count = { λ u. u.slots.most };
 
     ghost symbol_count = { λ u. u.slots.symbols };
 
-    ghost is_live = { λ u. is_held u.slots.held.items };
+    ghost is_live = { λ u. is_held u.slots.entries.items };
 
-    ghost symbols_of = { λ u. held_symbols u.slots.held.items };
+    ghost symbols_of = { λ u. held_symbols u.slots.entries.items };
 
-    ghost slots_of = { λ u. held_slots u.slots.held.items };
+    ghost slots_of = { λ u. held_slots u.slots.entries.items };
 
-    ghost globals_of = { λ u. held_globals u.slots.held.items };
+    ghost globals_of = { λ u. held_globals u.slots.entries.items };
 
-    ghost is_local = { λ u. is_held_local u.slots.held.items };
+    ghost is_local = { λ u. is_held_local u.slots.entries.items };
 
     ghost small = { λ u. (u.slots.few_slots, u.slots.few_symbols) };
 
-    ghost live_below = { λ u i live. laws.live_below u.slots.held.items u.slots.most i u.slots.within live };
+    ghost live_below = { λ u i live. own.live_below u.slots i live };
 
-    ghost symbols_below = { λ u i s live t. u.slots.below i s t };
+    ghost symbols_below = { λ u i s live t. own.symbols_below u.slots i s t };
 
-    ghost occurrences = { λ u. laws.occurrences u.slots.held.items };
+    ghost occurrences = { λ u. laws.occurrences u.slots.entries.items };
 
-    ghost globals = { λ u. laws.globals u.slots.held.items };
+    ghost globals = { λ u. laws.globals u.slots.entries.items };
 
-    ghost antitone = { λ u. laws.antitone_held u.slots.held.items };
+    ghost antitone = { λ u side. laws.antitone codes.codes_shrink u.slots.entries.items side u.slots.covered };
 
     fn slots(&self) -> u32 {
         self.slots.most()
@@ -100,10 +129,7 @@ impl<T: Tables> Universe for FlatUniverse<T> {
     }
 
     fn signature(&self, i: u32) -> &[u32] {
-        match self.slots.get(i) {
-            Some(slot) => slot.symbols(),
-            None => &[],
-        }
+        self.slots.signature(i)
     }
 
     fn occurs(&self, s: u32) -> &[u32] {
@@ -117,7 +143,7 @@ impl<T: Tables> Universe for FlatUniverse<T> {
     fn local(&self, side: Side, i: u32, seen: &Row, tally: &mut Tally) -> bool {
         tally.count_test();
         match self.slots.get(i) {
-            Some(slot) => slot.is_local::<T>(side, seen),
+            Some(slot) => slot.is_local(side, seen),
             None => true,
         }
     }

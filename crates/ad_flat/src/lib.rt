@@ -1,15 +1,17 @@
-//! The universe of an ontology's axioms: their trees in slots from 0 on, with the numbers of their entities.
+//! The universe of an ontology's axioms, in numbered slots that are freed and used again.
 #![tactic(auto)]
 
 pub use adding::add;
 pub use flat::FlatUniverse;
-pub use tables::Tables;
+pub use laws::modules_of_trees;
 
 mod adding;
+mod axioms;
+mod entries;
 mod flat;
-pub mod laws;
+mod laws;
 mod lists;
 mod numbers;
-mod slot;
+mod rows;
+mod shared;
 mod slots;
-mod tables;

@@ -1,81 +1,42 @@
-ghost use Rattle.std.specs.Prelude.{◌≡◌, ◌<◌, cond, Some, None, length, IfOk, OnOk};
-ghost use Rattle.std.specs.List.{zip};
-ghost use Rattle.ad_entity.specs.Entities.{entity, same_entity};
-ghost use Rattle.ad_entity.specs.declared.entities.Entity.{Entity};
-ghost use Rattle.ad_flat.specs.Distinct.{AreDistinctEntities};
-ghost use Rattle.ad_flat.specs.Numbering.{number_in, IsNumbering};
+//! The numbers of an axiom's entities.
+ghost use Rattle.std.specs.Prelude.{◌≡◌, ◌<◌, ◌≤◌, ◌+◌, ◌||◌, ℕ, vec_len, vec_capacity, IfOk};
+ghost use Rattle.std.specs.Ordering.{nat_cmp};
+ghost use Rattle.std.specs.List.Sorted.{IsStrictlySortedBy};
+ghost use Rattle.ad_theory.specs.Numbers.{among};
+ghost use Rattle.ad_codes.specs.Laws.{number_list, numbers_of};
 
-use ad_base::{Memory, Word};
-use ad_tree::{Entity, EntityKind};
+use ad_base::Memory;
+use ad_slots::rising::put_into;
+use ad_tree::{Entity, Naming};
 use std::alloc::Global;
-use std::collections::BTreeMap;
 
-// Numbers of entities. It has no hasher, since names may come from anybody.
-#[derive(Drop)]
-pub(crate) struct Numbers {
-    classes: BTreeMap<Word, u32>,
-    datatypes: BTreeMap<Word, u32>,
-    object_properties: BTreeMap<Word, u32>,
-    data_properties: BTreeMap<Word, u32>,
-    annotation_properties: BTreeMap<Word, u32>,
-    individuals: BTreeMap<Word, u32>,
+// The numbers of those of the entities that have one, rising, each once.
+pub(crate) fn numbers_of<N: Naming>(
+    alloc: Global,
+    entities: &[Entity],
+    names: &N,
+) -> Result<Vec<u32>, Memory>
+    ensures rising { IfOk result (λ list. IsStrictlySortedBy nat_cmp list.items) }
+    ensures members { IfOk result (λ list. (n : ℕ) → among list.items n ≡ among (numbers_of (N.number_of names.now) entities.now) n) }
+{
+    let mut list = Vec::with_capacity(alloc, entities.len())?;
+    for entity in entities {
+        put_number(&mut list, names.number(entity.kind, &entity.name));
+    }
+    Ok(list)
 }
 
-impl Numbers {
-    // The map without entities. It takes no memory.
-    fn new(alloc: Global) -> Numbers
-        ensures { (e : Entity) → number_in result e ≡ None }
-    {
-        Numbers {
-            classes: BTreeMap::new(alloc),
-            datatypes: BTreeMap::new(alloc),
-            object_properties: BTreeMap::new(alloc),
-            data_properties: BTreeMap::new(alloc),
-            annotation_properties: BTreeMap::new(alloc),
-            individuals: BTreeMap::new(alloc),
-        }
-    }
-
-    // The number of the entity of this kind and name.
-    pub(crate) fn number(&self, kind: EntityKind, name: &Word) -> Option<u32>
-        ensures { result ≡ number_in self.now (entity kind name.now) }
-    {
-        match kind {
-            EntityKind::Class => self.classes.get(name).copied(),
-            EntityKind::Datatype => self.datatypes.get(name).copied(),
-            EntityKind::ObjectProperty => self.object_properties.get(name).copied(),
-            EntityKind::DataProperty => self.data_properties.get(name).copied(),
-            EntityKind::AnnotationProperty => self.annotation_properties.get(name).copied(),
-            EntityKind::NamedIndividual => self.individuals.get(name).copied(),
-        }
-    }
-
-    // Gives an entity a number.
-    fn put(&mut self, alloc: Global, named: &Entity, number: u32) -> Result<(), Memory>
-        ensures { OnOk result ((e : Entity) → number_in self.new e ≡ cond (same_entity named.now e) (Some number) (number_in self.old e)) }
-    {
-        let name = named.name.copy(alloc)?;
-        match named.kind {
-            EntityKind::Class => self.classes.insert(name, number)?,
-            EntityKind::Datatype => self.datatypes.insert(name, number)?,
-            EntityKind::ObjectProperty => self.object_properties.insert(name, number)?,
-            EntityKind::DataProperty => self.data_properties.insert(name, number)?,
-            EntityKind::AnnotationProperty => self.annotation_properties.insert(name, number)?,
-            EntityKind::NamedIndividual => self.individuals.insert(name, number)?,
-        };
-        Ok(())
-    }
-
-    // The entities, each once, with the numbers beside them.
-    pub(crate) fn of(alloc: Global, entities: &[Entity], symbols: &[u32]) -> Result<Numbers, Memory>
-        requires long { length symbols.now ≡ length entities.now }
-        requires distinct { AreDistinctEntities entities.now }
-        ensures { IfOk result (IsNumbering (zip entities.now symbols.now)) }
-    {
-        let mut numbers = Numbers::new(alloc);
-        for k in 0..entities.len() {
-            numbers.put(alloc, &entities[k], symbols[k])?;
-        }
-        Ok(numbers)
+// Puts a number, if there is one, into the list, which has room.
+fn put_number(list: &mut Vec<u32>, number: Option<u32>)
+    requires rising { IsStrictlySortedBy nat_cmp list.old.items }
+    requires room { vec_len list.old < vec_capacity list.old }
+    ensures rising { IsStrictlySortedBy nat_cmp list.new.items }
+    ensures members { (n : ℕ) → among list.new.items n ≡ (among (number_list number) n || among list.old.items n) }
+    ensures len { vec_len list.new ≤ vec_len list.old + 1 }
+    ensures capacity { vec_capacity list.new ≡ vec_capacity list.old }
+{
+    match number {
+        Some(n) => put_into(list, n),
+        None => {}
     }
 }

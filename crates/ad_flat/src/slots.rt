@@ -1,87 +1,181 @@
-ghost use Rattle.std.specs.Prelude.{◌≡◌, ◌<◌, ◌≤◌, ◌++◌, ◌∷◌, [], ℕ, map, length, vec_len, vec_capacity, IfOk, OnOk, OnErr, IsTrue};
-ghost use Rattle.std.specs.List.{slice_get};
+ghost use Rattle.std.specs.Prelude.{◌≡◌, ◌<◌, ◌≤◌, ◌↔◌, ℕ, Some, None, [], vec_len, vec_capacity, length, IfOk, OnOk, OnErr, IsTrue, IsFalse};
 ghost use Rattle.std.specs.Option.{option_copied};
+ghost use Rattle.smallvec.specs.SmallVec.{HasRoomFor};
 ghost use Rattle.ad_base.specs.declared.limits.Side.{Side};
 ghost use Rattle.ad_base.specs.declared.limits.Side.TheVariants as sides;
 ghost use Rattle.ad_theory.specs.Numbers.{among};
-ghost use Rattle.ad_flat.specs.Distinct.{AreDistinctNumbers};
-ghost use Rattle.ad_flat.specs.Held.{is_global};
-ghost use Rattle.ad_flat.specs.Places.{AreHeldBelow, IsIndexed, held_globals, held_slots};
+ghost use Rattle.ad_slots.specs.Held.{IsCovered};
+ghost use Rattle.ad_slots.specs.Places.{slot_at, is_held, held_slots, held_symbols, held_globals, is_global, least_free, AreCovered, AreHeldBelow, IsReplaced};
+ghost use Rattle.ad_flat.specs.Changes.{list_at, list_of};
+ghost use Rattle.ad_flat.specs.Free.{AreFree};
 
-use crate::lists::{empty_lists, enter_each, enter_if, reserve_each};
-use crate::slot::Slot;
+use crate::entries::{free, hold, share_entries, symbols_of};
+use crate::lists::{copy_list, copy_lists, enter_each, enter_if, leave_each, make_room};
+use crate::rows::{copy_row, full_row};
+use crate::shared::Entry;
 use ad_base::{Limits, Memory, Side};
+use ad_bits::Row;
+use ad_slots::Slot;
+use ad_slots::rising::drop_from;
+use smallvec::SmallVec;
 use std::alloc::Global;
 
-// The slots that hold axioms, from 0 on, with what is looked up in them.
+// The slots, with what is looked up in them.
 #[derive(Drop)]
 pub(crate) struct Slots {
     // how many slots and symbols there may be
     most: u32,
     symbols: u32,
-    held: Vec<Slot>,
-    // for each symbol the slots in whose signatures it stands
-    occurrences: Vec<Vec<u32>>,
+    // what each slot holds; those past the end are free
+    entries: Vec<Option<Entry>>,
+    // the free slots
+    free: Row,
+    // for each symbol the slots in whose signatures it stands; those past the end stand in none
+    occurrences: Vec<SmallVec<u32, 6>>,
     // the slots that are not local for nothing, on each side
     bottom: Vec<u32>,
     top: Vec<u32>,
     ghost few_slots: { most ≤ 65536 },
     ghost few_symbols: { symbols ≤ 65536 },
-    ghost within: { length held.items ≤ most },
-    ghost below: { AreHeldBelow symbols held.items },
-    ghost indexed: { IsIndexed symbols held.items (map (λ v. v.items) occurrences.items) },
-    ghost bottom_globals: { bottom.items ≡ held_globals held.items sides.Bottom },
-    ghost top_globals: { top.items ≡ held_globals held.items sides.Top },
-    ghost held_room: { most ≤ vec_capacity held },
-    ghost bottom_room: { most ≤ vec_capacity bottom },
-    ghost top_room: { most ≤ vec_capacity top },
+    ghost within: { vec_len entries ≤ most },
+    ghost are_free: { AreFree most entries.items free },
+    ghost lists_within: { vec_len occurrences ≤ symbols },
+    ghost below: { AreHeldBelow (vec_len occurrences) entries.items },
+    ghost covered: { AreCovered entries.items },
+    ghost indexed: { (s : ℕ) → list_of occurrences.items s ≡ held_slots entries.items s },
+    ghost bottom_globals: { bottom.items ≡ held_globals entries.items sides.Bottom },
+    ghost top_globals: { top.items ≡ held_globals entries.items sides.Top },
 }
 
 impl Slots {
-    // No slot holds an axiom.
+    // All slots are free.
     pub(crate) fn new(alloc: Global, limits: &Limits) -> Result<Slots, Memory>
         requires axioms { limits.now.axioms ≤ 65536 }
         requires entities { limits.now.entities ≤ 65536 }
         ensures most { IfOk result (λ slots. slots.most ≡ limits.now.axioms) }
         ensures symbols { IfOk result (λ slots. slots.symbols ≡ limits.now.entities) }
-        ensures empty { IfOk result (λ slots. slots.held.items ≡ []) }
+        ensures empty { IfOk result (λ slots. slots.entries.items ≡ []) }
     {
-        let most = limits.axioms as usize;
+        let free = full_row(alloc, limits.axioms)?;
         Ok(Slots {
             most: limits.axioms,
             symbols: limits.entities,
-            held: Vec::with_capacity(alloc, most)?,
-            occurrences: empty_lists(alloc, limits.entities)?,
-            bottom: Vec::with_capacity(alloc, most)?,
-            top: Vec::with_capacity(alloc, most)?,
+            entries: Vec::new(alloc),
+            free,
+            occurrences: Vec::new(alloc),
+            bottom: Vec::new(alloc),
+            top: Vec::new(alloc),
         })
     }
 
-    // Puts an axiom into the next slot, and says which it is. Whether it is local for nothing is known.
-    pub(crate) fn add(
+    // The least free slot.
+    pub(crate) fn next(&self) -> usize
+        ensures { result ≡ least_free self.now.entries.items }
+    {
+        match self.free.next(0) {
+            Some(i) => i as usize,
+            None => self.most as usize,
+        }
+    }
+
+    // Takes the memory that one more axiom with these symbols needs.
+    fn reserve(&mut self, alloc: Global, symbols: &[u32]) -> Result<(), Memory>
+        requires { (s : ℕ) → IsTrue (among symbols.now s) → s < self.old.symbols }
+        ensures entries { self.new.entries.items ≡ self.old.entries.items }
+        ensures most { self.new.most ≡ self.old.most }
+        ensures symbols { self.new.symbols ≡ self.old.symbols }
+        ensures lists { OnOk result ((s : ℕ) → IsTrue (among symbols.now s) → s < vec_len self.new.occurrences) }
+        ensures places { OnOk result ((s : ℕ) → IsTrue (among symbols.now s) → HasRoomFor (list_at self.new.occurrences.items s) 1) }
+        ensures room { OnOk result (vec_len self.new.entries < vec_capacity self.new.entries) }
+        ensures bottom { OnOk result (vec_len self.new.bottom < vec_capacity self.new.bottom) }
+        ensures top { OnOk result (vec_len self.new.top < vec_capacity self.new.top) }
+    {
+        self.entries.reserve(1)?;
+        self.bottom.reserve(1)?;
+        self.top.reserve(1)?;
+        make_room(alloc, &mut self.occurrences, symbols)
+    }
+
+    // Puts an axiom into a free slot. Whether it is local for nothing is known.
+    pub(crate) fn put(
         &mut self,
+        alloc: Global,
+        i: u32,
         slot: Slot,
         is_bottom_global: bool,
         is_top_global: bool,
-    ) -> Result<u32, Memory>
-        requires room { length self.old.held.items < self.old.most }
+    ) -> Result<(), Memory>
+        requires vacant { IsFalse (is_held self.old.entries.items i) }
+        requires next { i ≤ vec_len self.old.entries }
+        requires within { i < self.old.most }
         requires below { (s : ℕ) → IsTrue (among slot.symbols s) → s < self.old.symbols }
-        requires distinct { AreDistinctNumbers slot.symbols }
-        requires bottom { is_bottom_global ≡ is_global sides.Bottom slot }
-        requires top { is_top_global ≡ is_global sides.Top slot }
-        ensures next { IfOk result (λ i. i ≡ length self.old.held.items) }
-        ensures ok { OnOk result (self.new.held.items ≡ self.old.held.items ++ slot ∷ []) }
-        ensures err { OnErr result (self.new.held.items ≡ self.old.held.items) }
+        requires covered { IsCovered slot.code slot.symbols }
+        requires bottom { is_bottom_global ≡ is_global sides.Bottom (Some slot) }
+        requires top { is_top_global ≡ is_global sides.Top (Some slot) }
+        ensures ok { OnOk result (IsReplaced i (Some slot) self.old.entries.items self.new.entries.items) }
+        ensures err { OnErr result (self.new.entries.items ≡ self.old.entries.items) }
         ensures most { self.new.most ≡ self.old.most }
         ensures symbols { self.new.symbols ≡ self.old.symbols }
     {
-        reserve_each(&mut self.occurrences, slot.symbols())?;
-        let next = self.held.len() as u32;
-        enter_each(&mut self.occurrences, slot.symbols(), next);
-        enter_if(&mut self.bottom, is_bottom_global, next);
-        enter_if(&mut self.top, is_top_global, next);
-        self.held.push_reserved(slot);
-        Ok(next)
+        self.reserve(alloc, slot.symbols())?;
+        let entry = Entry::new(alloc, slot)?;
+        enter_each(&mut self.occurrences, entry.slot().symbols(), i);
+        enter_if(&mut self.bottom, is_bottom_global, i);
+        enter_if(&mut self.top, is_top_global, i);
+        hold(&mut self.entries, i as usize, entry);
+        self.free.unset(i);
+        Ok(())
+    }
+
+    // Frees a slot.
+    pub(crate) fn remove(&mut self, i: u32)
+        requires { IsTrue (is_held self.old.entries.items i) }
+        ensures freed { IsReplaced i None self.old.entries.items self.new.entries.items }
+        ensures most { self.new.most ≡ self.old.most }
+        ensures symbols { self.new.symbols ≡ self.old.symbols }
+    {
+        let symbols = symbols_of(self.entries.as_slice(), i as usize);
+        leave_each(&mut self.occurrences, symbols, i);
+        drop_from(&mut self.bottom, i);
+        drop_from(&mut self.top, i);
+        free(&mut self.entries, i as usize);
+        self.free.set(i);
+    }
+
+    // The same slots once more, which share axioms.
+    pub(crate) fn copy(&self, alloc: Global) -> Result<Slots, Memory>
+        ensures entries { IfOk result (λ copy. copy.entries.items ≡ self.now.entries.items) }
+        ensures most { IfOk result (λ copy. copy.most ≡ self.now.most) }
+        ensures symbols { IfOk result (λ copy. copy.symbols ≡ self.now.symbols) }
+    {
+        let (bottom, top) = self.copy_globals(alloc)?;
+        let (occurrences, free) = self.copy_places(alloc)?;
+        Ok(Slots {
+            most: self.most,
+            symbols: self.symbols,
+            entries: share_entries(alloc, self.entries.as_slice())?,
+            free,
+            occurrences,
+            bottom,
+            top,
+        })
+    }
+
+    fn copy_globals(&self, alloc: Global) -> Result<(Vec<u32>, Vec<u32>), Memory>
+        ensures bottom { IfOk result (λ copy. copy.0.items ≡ self.now.bottom.items) }
+        ensures top { IfOk result (λ copy. copy.1.items ≡ self.now.top.items) }
+    {
+        let bottom = copy_list(alloc, self.bottom.as_slice())?;
+        Ok((bottom, copy_list(alloc, self.top.as_slice())?))
+    }
+
+    fn copy_places(&self, alloc: Global) -> Result<(Vec<SmallVec<u32, 6>>, Row), Memory>
+        ensures occurrences { IfOk result (λ copy. (s : ℕ) → list_of copy.0.items s ≡ list_of self.now.occurrences.items s) }
+        ensures len { IfOk result (λ copy. vec_len copy.0 ≡ vec_len self.now.occurrences) }
+        ensures free { IfOk result (λ copy. copy.1 ≡ self.now.free) }
+    {
+        let occurrences = copy_lists(alloc, self.occurrences.as_slice())?;
+        Ok((occurrences, copy_row(alloc, &self.free)?))
     }
 
     // How many slots and symbols there may be.
@@ -99,22 +193,34 @@ impl Slots {
 
     // What a slot holds.
     pub(crate) fn get(&self, i: u32) -> Option<&Slot>
-        ensures { option_copied result ≡ slice_get self.now.held.items i }
+        ensures { option_copied result ≡ slot_at self.now.entries.items i }
     {
-        self.held.get(i as usize)
+        match self.entries.get(i as usize) {
+            Some(Some(entry)) => Some(entry.slot()),
+            _ => None,
+        }
+    }
+
+    // The symbols of a slot.
+    pub(crate) fn signature(&self, i: u32) -> &[u32]
+        ensures { result.now ≡ held_symbols self.now.entries.items i }
+    {
+        symbols_of(self.entries.as_slice(), i as usize)
     }
 
     // The slots in whose signatures the symbol stands.
     pub(crate) fn occurs(&self, s: u32) -> &[u32]
-        requires { s < self.now.symbols }
-        ensures { result.now ≡ held_slots self.now.held.items s }
+        ensures { result.now ≡ held_slots self.now.entries.items s }
     {
-        self.occurrences[s as usize].as_slice()
+        match self.occurrences.get(s as usize) {
+            Some(list) => list.as_slice(),
+            None => &[],
+        }
     }
 
     // The slots that are not local for nothing.
     pub(crate) fn global(&self, side: Side) -> &[u32]
-        ensures { result.now ≡ held_globals self.now.held.items side }
+        ensures { result.now ≡ held_globals self.now.entries.items side }
     {
         match side {
             Side::Bottom => self.bottom.as_slice(),

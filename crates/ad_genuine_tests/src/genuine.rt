@@ -1,7 +1,7 @@
 //! Genuine modules of small ontologies.
 ghost use Rattle.std.specs.Prelude.{◌≡◌};
 
-use crate::universe::{Both, MOST, limits, universe_of};
+use crate::universe::{MOST, limits, universe_of};
 use ad_base::{Kind, Limits, Memory};
 use ad_bits::Row;
 use ad_extract::Queue;
@@ -39,19 +39,13 @@ static GENUINE: [(&str, u64, [&str; 3]); 7] = [
 fn found(
     rt: &(impl Threads + Sync),
     alloc: Global,
-    universe: &FlatUniverse<Both>,
+    universe: &FlatUniverse,
 ) -> Result<(Rows, u64), Memory>
     requires slots { universe.now.slots.most ≡ MOST }
     requires symbols { universe.now.slots.symbols ≡ MOST }
 {
     let mut tally = Tally::new();
-    let rows = scratch::<FlatUniverse<Both>, Starred<Queue>>(
-        rt,
-        alloc,
-        universe,
-        &limits(),
-        &mut tally,
-    )?;
+    let rows = scratch::<FlatUniverse, Starred<Queue>>(rt, alloc, universe, &limits(), &mut tally)?;
     Ok((rows, tally.runs()))
 }
 

@@ -1,31 +1,17 @@
 //! Ontologies as numbered axioms.
-ghost use Rattle.std.specs.Prelude.{◌≡◌, ◌≤◌, IfOk, length};
+ghost use Rattle.std.specs.Prelude.{◌≡◌, IfOk};
 ghost use Rattle.ad_base.specs.Limits.{AreWithinStandard};
 
-use ad_base::{Limits, Side};
-use ad_bottom::local_bottom;
-use ad_flat::{FlatUniverse, Tables, add};
+use ad_base::Limits;
+use ad_flat::{FlatUniverse, add};
 use ad_signature::Symbols;
-use ad_top::local_top;
-use ad_tree::{Axiom, Op, Seen};
+use ad_tree::{Noted, Op};
 use std::alloc::Global;
 use std::hash::RandomState;
 use std::test::Fail;
 
 /// How many axioms and entities there may be.
 pub(crate) const MOST: u32 = 8;
-
-/// Locality by the tables of the two sides.
-pub(crate) struct Both;
-
-impl Tables for Both {
-    fn local<S: Seen>(side: Side, axiom: &Axiom, seen: &S) -> bool {
-        match side {
-            Side::Bottom => local_bottom(axiom, seen),
-            Side::Top => local_top(axiom, seen),
-        }
-    }
-}
 
 pub(crate) fn limits() -> Limits
     ensures axioms { result.axioms ≡ MOST }
@@ -38,23 +24,40 @@ pub(crate) fn limits() -> Limits
     limits
 }
 
+/// Puts an axiom into the least free slot, where there is one.
+fn put(
+    alloc: Global,
+    universe: &mut FlatUniverse,
+    symbols: &mut Symbols,
+    noted: &Noted,
+) -> Result<(), Fail>
+    requires slots { universe.old.slots.most ≡ MOST }
+    requires symbols { universe.old.slots.symbols ≡ MOST }
+    requires limit { symbols.old.limit ≡ MOST }
+    ensures slots { universe.new.slots.most ≡ MOST }
+    ensures symbols { universe.new.slots.symbols ≡ MOST }
+    ensures limit { symbols.new.limit ≡ MOST }
+{
+    if universe.next() >= MOST as usize {
+        Err("many axioms")?;
+    }
+    add(alloc, universe, symbols, noted)?;
+    Ok(())
+}
+
 /// The axioms of additions, each with its place in the list as its number.
 pub(crate) fn universe_of(
     alloc: Global,
     keys: RandomState,
     axioms: &[Op],
-) -> Result<FlatUniverse<Both>, Fail>
-    requires { length axioms.now ≤ MOST }
+) -> Result<FlatUniverse, Fail>
     ensures slots { IfOk result (λ universe. universe.slots.most ≡ MOST) }
     ensures symbols { IfOk result (λ universe. universe.slots.symbols ≡ MOST) }
 {
     let mut symbols = Symbols::new(alloc, keys, MOST)?;
     let mut universe = FlatUniverse::empty(alloc, &limits())?;
     for axiom in axioms {
-        if !axiom.noted.is_logical() {
-            Err("a carried axiom")?;
-        }
-        add(alloc, &mut universe, &mut symbols, &axiom.noted)?;
+        put(alloc, &mut universe, &mut symbols, &axiom.noted)?;
     }
     Ok(universe)
 }

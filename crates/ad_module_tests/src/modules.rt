@@ -89,7 +89,7 @@ fn put(alloc: Global, axioms: &mut Batch, op: &Op) -> Result<(), Fail>
 }
 
 /// The logical axioms of a document, which are no more than there may be.
-fn logical(alloc: Global, text: &str) -> Result<Batch, Fail>
+pub(crate) fn logical(alloc: Global, text: &str) -> Result<Batch, Fail>
     ensures { IfOk result (λ axioms. length axioms ≤ MOST) }
 {
     let document = document(alloc, text)?;

@@ -1,35 +1,21 @@
 //! Ontologies as numbered axioms, and their modules by the queue and by alternation.
-ghost use Rattle.std.specs.Prelude.{◌≡◌, ◌≤◌, IfOk, IsTrue, length};
+ghost use Rattle.std.specs.Prelude.{◌≡◌, ◌<◌, IfOk, length};
 ghost use Rattle.ad_base.specs.Limits.{AreWithinStandard};
 
 use ad_base::{Kind, Limits, Memory, Side};
 use ad_bits::Row;
-use ad_bottom::local_bottom;
 use ad_extract::Queue;
-use ad_flat::{FlatUniverse, Tables, add};
+use ad_flat::{FlatUniverse, add};
 use ad_signature::Symbols;
 use ad_star::Starred;
-use ad_theory::{Extractor, Half, Tally, empty_row};
-use ad_top::local_top;
-use ad_tree::{Axiom, Naming, Op, Seed, Seen};
+use ad_theory::{Extractor, Half, Tally, Universe, empty_row};
+use ad_tree::{Naming, Noted, Op, Seed};
 use std::alloc::Global;
 use std::hash::RandomState;
 use std::test::Fail;
 
 /// How many axioms and entities there may be.
 pub(crate) const MOST: u32 = 32;
-
-/// Locality by the tables of the two sides.
-pub(crate) struct Both;
-
-impl Tables for Both {
-    fn local<S: Seen>(side: Side, axiom: &Axiom, seen: &S) -> bool {
-        match side {
-            Side::Bottom => local_bottom(axiom, seen),
-            Side::Top => local_top(axiom, seen),
-        }
-    }
-}
 
 fn limits() -> Limits
     ensures axioms { result.axioms ≡ MOST }
@@ -45,10 +31,11 @@ fn limits() -> Limits
 /// Axioms with numbers, and numbers for their entities.
 #[derive(Drop)]
 pub(crate) struct Numbered {
-    universe: FlatUniverse<Both>,
+    universe: FlatUniverse,
     symbols: Symbols,
     ghost slots: { universe.slots.most ≡ 32 },
     ghost entities: { universe.slots.symbols ≡ 32 },
+    ghost limit: { symbols.limit ≡ 32 },
 }
 
 /// The axioms of additions, each with its place in the list as its number.
@@ -56,18 +43,12 @@ pub(crate) fn with_numbers(
     alloc: Global,
     keys: RandomState,
     axioms: &[Op],
-) -> Result<Numbered, Fail>
-    requires { length axioms.now ≤ MOST }
-{
-    let mut symbols = Symbols::new(alloc, keys, MOST)?;
-    let mut universe = FlatUniverse::empty(alloc, &limits())?;
+) -> Result<Numbered, Fail> {
+    let mut numbered = Numbered::empty(alloc, keys)?;
     for axiom in axioms {
-        if !axiom.noted.is_logical() {
-            Err("a carried axiom")?;
-        }
-        add(alloc, &mut universe, &mut symbols, &axiom.noted)?;
+        numbered.insert(alloc, &axiom.noted)?;
     }
-    Ok(Numbered { universe, symbols })
+    Ok(numbered)
 }
 
 /// The numbers of the entities of a seed that have one.
@@ -97,6 +78,54 @@ fn all_slots(alloc: Global) -> Result<Row, Memory>
 }
 
 impl Numbered {
+    /// No axioms.
+    pub(crate) fn empty(alloc: Global, keys: RandomState) -> Result<Numbered, Fail> {
+        let symbols = Symbols::new(alloc, keys, MOST)?;
+        let universe = FlatUniverse::empty(alloc, &limits())?;
+        Ok(Numbered { universe, symbols })
+    }
+
+    /// Gives an axiom the least free number, where there is one.
+    pub(crate) fn insert(&mut self, alloc: Global, noted: &Noted) -> Result<u32, Fail> {
+        if self.universe.next() >= MOST as usize {
+            Err("many axioms")?;
+        }
+        Ok(add(alloc, &mut self.universe, &mut self.symbols, noted)?)
+    }
+
+    /// Removes the axiom with this number, where there is one.
+    pub(crate) fn remove(&mut self, slot: u32) {
+        if slot < MOST && self.universe.live(slot) {
+            self.universe.remove(slot);
+        }
+    }
+
+    /// Begins again without axioms. Entities keep their numbers.
+    pub(crate) fn clear(&mut self, alloc: Global) -> Result<(), Memory> {
+        self.universe = FlatUniverse::empty(alloc, &limits())?;
+        Ok(())
+    }
+
+    /// Whether this slot holds the same symbols in both, and this symbol stands in the same slots.
+    fn is_alike_at(&self, other: &Numbered, i: u32) -> bool
+        requires { i < MOST }
+    {
+        self.universe.live(i) == other.universe.live(i)
+            && self.universe.signature(i) == other.universe.signature(i)
+            && self.universe.occurs(i) == other.universe.occurs(i)
+    }
+
+    /// Whether both hold the same symbols in the same slots, of which the same are global.
+    pub(crate) fn is_alike(&self, other: &Numbered) -> bool {
+        for i in 0..MOST {
+            if !self.is_alike_at(other, i) {
+                return false;
+            }
+        }
+        self.universe.global(Side::Bottom) == other.universe.global(Side::Bottom)
+            && self.universe.global(Side::Top) == other.universe.global(Side::Top)
+    }
+
     /// The slots of the module of a side, by the queue, and how many tests of locality it took.
     pub(crate) fn by_queue(
         &self,

@@ -1,7 +1,6 @@
 ghost use Rattle.std.specs.Prelude.{◌≡◌, ◌≤◌, ◌<◌, length};
 ghost use Rattle.ad_base.specs.Limits.{AreWithinStandard};
 
-use crate::tree::Both;
 use ad_base::{Kind, Limits, Memory};
 use ad_bits::Row;
 use ad_extract::Queue;
@@ -25,7 +24,7 @@ fn fill(row: &mut Row, symbols: &[u32])
 // How many axioms the modules of this kind have in all, for the signatures of the first axioms.
 pub(crate) fn sizes(
     alloc: Global,
-    universe: &FlatUniverse<Both>,
+    universe: &FlatUniverse,
     limits: &Limits,
     kind: Kind,
     count: u32,

@@ -1,27 +1,13 @@
-ghost use Rattle.std.specs.Prelude.{◌≡◌, ◌≤◌, ◌/◌, IfOk, IsTrue, length};
+ghost use Rattle.std.specs.Prelude.{◌≡◌, ◌≤◌, IfOk};
 ghost use Rattle.ad_base.specs.Limits.{AreWithinStandard};
-ghost use Rattle.ad_tree.specs.Logical.{is_logical};
 
-use ad_base::{Limits, Memory, Side, Word};
-use ad_bottom::local_bottom;
-use ad_flat::{FlatUniverse, Tables, add};
+use ad_base::{Limits, Memory, Word};
+use ad_flat::{FlatUniverse, add};
 use ad_signature::Symbols;
-use ad_top::local_top;
-use ad_tree::{Axiom, Class, Many, Noted, Seen};
+use ad_tree::{Axiom, Class, Many, Noted};
+use anyhow::anyhow;
 use std::alloc::Global;
 use std::hash::RandomState;
-
-// Locality by the tables of the two sides.
-pub(crate) struct Both;
-
-impl Tables for Both {
-    fn local<S: Seen>(side: Side, axiom: &Axiom, seen: &S) -> bool {
-        match side {
-            Side::Bottom => local_bottom(axiom, seen),
-            Side::Top => local_top(axiom, seen),
-        }
-    }
-}
 
 // The class with this number in its name.
 fn class(alloc: Global, i: u32) -> Result<Class, Memory> {
@@ -29,13 +15,33 @@ fn class(alloc: Global, i: u32) -> Result<Class, Memory> {
     Ok(Class::Named(Word::of(alloc, name.as_str())?))
 }
 
-fn sub_class(alloc: Global, below: u32, above: u32) -> Result<Noted, Memory>
-    ensures { IfOk result (λ noted. IsTrue (is_logical noted.axiom)) }
-{
+fn sub_class(alloc: Global, below: u32, above: u32) -> Result<Noted, Memory> {
     Ok(Noted {
         notes: Many::new(alloc),
         axiom: Axiom::SubClassOf(class(alloc, below)?, class(alloc, above)?),
     })
+}
+
+// Puts an axiom into the least free slot, where there is one.
+fn put(
+    alloc: Global,
+    universe: &mut FlatUniverse,
+    symbols: &mut Symbols,
+    limits: &Limits,
+    noted: &Noted,
+) -> anyhow::Result<()>
+    requires slots { universe.old.slots.most ≡ limits.now.axioms }
+    requires symbols { universe.old.slots.symbols ≡ limits.now.entities }
+    requires limit { symbols.old.limit ≡ limits.now.entities }
+    ensures slots { universe.new.slots.most ≡ limits.now.axioms }
+    ensures symbols { universe.new.slots.symbols ≡ limits.now.entities }
+    ensures limit { symbols.new.limit ≡ limits.now.entities }
+{
+    if universe.next() >= limits.axioms as usize {
+        return Err(anyhow!("no free slot"));
+    }
+    add(alloc, universe, symbols, noted)?;
+    Ok(())
 }
 
 // So many axioms, each of which puts a class below the one with half its number.
@@ -44,7 +50,7 @@ pub(crate) fn class_tree(
     keys: RandomState,
     limits: &Limits,
     count: u32,
-) -> anyhow::Result<FlatUniverse<Both>>
+) -> anyhow::Result<FlatUniverse>
     requires limits { AreWithinStandard limits.now }
     requires count { count ≤ limits.now.axioms }
     ensures slots { IfOk result (λ universe. universe.slots.most ≡ limits.now.axioms) }
@@ -54,7 +60,7 @@ pub(crate) fn class_tree(
     let mut universe = FlatUniverse::empty(alloc, limits)?;
     for i in 0..count {
         let noted = sub_class(alloc, i + 1, (i + 1) / 2)?;
-        add(alloc, &mut universe, &mut symbols, &noted)?;
+        put(alloc, &mut universe, &mut symbols, limits, &noted)?;
     }
     Ok(universe)
 }

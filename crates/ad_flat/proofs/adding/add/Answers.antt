@@ -1,9 +1,13 @@
-use Rattle.std.proofs.Common.{sym, subst, ◌∙◌, ◌≤◌}
-use Rattle.ad_flat.proofs.AddingLemmas.{all_numbered}
+use Rattle.std.proofs.Common.{ap, ◌∙◌}
+use Rattle.std.proofs.lemmas.Result.{err_from_is_err_and}
+use Rattle.ad_entity.specs.Entities.{has_entity}
+use Rattle.ad_locality.specs.Signature.{in_signature}
+use Rattle.ad_flat.proofs.AddingLemmas.{refused_so}
 use Rattle.ad_flat.proofs.adding.add.Goals as goal
 
-pub insert-requires-clause-named : goal.insert-requires-clause-named
-insert-requires-clause-named g c =
-    let s = c.enter_all.new.symbols in
-    all_numbered c.args.universe.now.slots.symbols s.next s.limit s.names c.args.noted.now.axiom c.entities-2.result.now (c.entities-2.ensures ∙ c.in-Ok.ensures.order) c.in_ok-enter_all.ensures.named s.below s.within
-    (subst (λ l. l ≤ c.args.universe.now.slots.symbols) (sym c.in_ok-enter_all.ensures.limit) c.requires.limit) s.one_to_one
+pub returns-in_err-enter_all-clause-refused : goal.returns-in_err-enter_all-clause-refused
+returns-in_err-enter_all-clause-refused c =
+    let p = err_from_is_err_and c.from_residual.result c.from_residual.ensures.1 in
+    rw (p.1, p.2) (refused_so (has_entity c.entities-2.result.now) (in_signature c.args.noted.now.axiom)
+    (λ e. ap (λ es. has_entity es e) c.entities-2.ensures ∙ c.in-Ok.ensures.members e)
+    c.args.symbols.now.limit c.enter_all.new.symbols.names c.in_err-enter_all.field-0.0 c.in_err-enter_all.ensures.refused)
