@@ -13,7 +13,7 @@ const TEXT: &[u8] = b"SubClassOf(<u:A> <u:B>)";
 const FRONTS: [usize; 11] = [0, 10, 11, 12, 15, 16, 17, 18, 21, 22, 23];
 
 // The axiom of the text.
-pub fn pair(alloc: Global) -> Result<Noted, Fail> {
+pub(crate) fn pair(alloc: Global) -> Result<Noted, Fail> {
     let sub = Class::Named(Word::of(alloc, "u:A")?);
     let sup = Class::Named(Word::of(alloc, "u:B")?);
     Ok(Noted {
