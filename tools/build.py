@@ -225,10 +225,10 @@ class Build:
         self.running, self.last = {}, ""
         self.lanes, self.memory = processors(), free_memory()
         # First those with most to prove behind them.
-        behind = {}
+        self.behind = {}
         for it in reversed(crates):
-            behind[it.name] = it.lines + max((behind[one.name] for one in crates if it in one.below), default=0)
-        self.left.sort(key=lambda it: -behind[it.name])
+            self.behind[it.name] = it.lines + max((self.behind[one.name] for one in crates if it in one.below), default=0)
+        self.left.sort(key=lambda it: -self.behind[it.name])
 
     def run(self):
         """Builds all that is left."""
@@ -265,10 +265,14 @@ class Build:
             # (of the memory that was free when the build began: what runs takes its own only bit by bit)
             promised = sum(MEMORY + MEMORY_OF_JOB * (jobs - 1) for _, _, jobs in self.running.values())
             room = 0.85 * self.memory - promised
-            if idle < 1 or self.running and room < MEMORY:
+            # The crate with the most behind it holds all others up. It gets a job for each processor, and is counted as
+            # half of them: its jobs wait for one another, and the rest fills the gaps.
+            leads = all(self.behind[crate.name] >= self.behind[it.name] for it in [*self.left, *self.running])
+            if idle < 1 and not leads or self.running and room < MEMORY:
                 return
             spare = 1 + max(int((room - MEMORY) / MEMORY_OF_JOB), 0)
-            jobs = max(min(MOST_JOBS, idle // (len(ready) - at), spare), 1)
+            share = self.lanes if leads else idle // (len(ready) - at)
+            jobs = max(min(MOST_JOBS, share, spare), 1)
             self.left.remove(crate)
             lay(crate)
             verb = "run" if crate.name == NAME else "lib"
@@ -278,7 +282,7 @@ class Build:
                 words = ["rt", verb, "--jobs", str(jobs)]
                 # In a session of its own, so that Ctrl-C reaches this process alone.
                 ran = subprocess.Popen(words, cwd=crate.own, stdin=subprocess.DEVNULL, stdout=log, stderr=subprocess.STDOUT, start_new_session=True)
-            self.running[crate] = ran, time.monotonic(), jobs
+            self.running[crate] = ran, time.monotonic(), max(self.lanes // 2, 1) if leads else jobs
 
     def end(self, crate, status):
         """Notes that a crate's rt ended, with that status."""
