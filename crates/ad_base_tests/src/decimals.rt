@@ -1,7 +1,7 @@
 //! Numbers as they are read and written.
 use ad_base::{digits, number};
 
-/// Texts, and the numbers that they are the decimals of.
+// Texts, and the numbers that they are the decimals of.
 static TEXTS: [(&str, Option<u64>); 10] = [
     ("0", Some(0)),
     ("7", Some(7)),

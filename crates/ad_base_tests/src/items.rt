@@ -6,7 +6,7 @@ use ad_request::Request;
 use std::alloc::Global;
 use std::test::Fail;
 
-/// What an item is, in short: what it asks for, and its payload.
+// What an item is, in short: what it asks for, and its payload.
 fn told(next: Next) -> &'static str {
     match next {
         Next::Item(request, payload) => told_request(request, payload),
@@ -18,7 +18,7 @@ fn told(next: Next) -> &'static str {
     }
 }
 
-/// What a line asks for, in short. All payloads are to be read.
+// What a line asks for, in short. All payloads are to be read.
 fn told_request(request: Option<Request>, payload: Payload) -> &'static str {
     if let Payload::Dropped = payload {
         return "dropped";
@@ -32,13 +32,13 @@ fn told_request(request: Option<Request>, payload: Payload) -> &'static str {
     }
 }
 
-/// A source that gives three bytes a call, and fails at one call.
+// A source that gives three bytes a call, and fails at one call.
 fn source_of(alloc: Global, text: &str, fault: u64) -> Result<MemSource, Fail> {
     let fail = vec![in alloc; fault]?;
     Ok(MemSource::new(Vec::from_slice(alloc, text.as_bytes())?, 3, fail))
 }
 
-/// Whether these items, the last of which may be the end, come first, with payloads of up to nine bytes.
+// Whether these items, the last of which may be the end, come first, with payloads of up to nine bytes.
 fn comes(alloc: Global, source: &mut MemSource, line: &mut Line, items: &[&str]) -> bool {
     let limits = Limits {
         payload: 9,
@@ -52,7 +52,7 @@ fn comes(alloc: Global, source: &mut MemSource, line: &mut Line, items: &[&str])
     true
 }
 
-/// Whether the text, with a fault at this call, is split into these items.
+// Whether the text, with a fault at this call, is split into these items.
 fn is_split(alloc: Global, text: &str, fault: u64, items: &[&str]) -> Result<bool, Fail> {
     let mut source = source_of(alloc, text, fault)?;
     let mut line = Line::new(alloc)?;
@@ -86,7 +86,7 @@ fn inputs_and_their_items(rt: HostRuntime) -> Result<(), Fail> {
     Ok(())
 }
 
-/// What a line of so many bytes is.
+// What a line of so many bytes is.
 fn long_line(alloc: Global, length: usize) -> Result<&'static str, Fail> {
     let mut text = vec![in alloc; b'x'; length]?;
     text.push(b'\n')?;

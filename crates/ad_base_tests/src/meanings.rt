@@ -5,7 +5,7 @@ use ad_lex::{Mark, Token, tokens};
 use std::alloc::{AllocError, Global};
 use std::test::Fail;
 
-/// Texts, and what their tokens say, each before a `;`.
+// Texts, and what their tokens say, each before a `;`.
 static MEANINGS: [(&[u8], &str); 9] = [
     (b"(", "sign;"),
     (b"<http://a#b> <>", "http://a#b;;"),
@@ -18,7 +18,7 @@ static MEANINGS: [(&[u8], &str); 9] = [
     (b"\"\\\xC3\xA4\"", "\\\u{E4};"),
 ];
 
-/// Writes what a token says.
+// Writes what a token says.
 fn say(alloc: Global, text: &[u8], token: Token, out: &mut String) -> Result<(), AllocError>
     requires { IsTokenOf text.now token }
 {
@@ -39,14 +39,14 @@ fn say(alloc: Global, text: &[u8], token: Token, out: &mut String) -> Result<(),
     }
 }
 
-/// Writes a prefix and a local part.
+// Writes a prefix and a local part.
 fn say_both(prefix: &str, local: &str, out: &mut String) -> Result<(), AllocError> {
     out.push_str(prefix)?;
     out.push_str("|")?;
     out.push_str(local)
 }
 
-/// Writes what these tokens of the text say.
+// Writes what these tokens of the text say.
 fn say_all(alloc: Global, text: &[u8], found: &[Token], out: &mut String) -> Result<(), AllocError>
     requires { AreTokensOf text.now found.now }
 {
@@ -57,7 +57,7 @@ fn say_all(alloc: Global, text: &[u8], found: &[Token], out: &mut String) -> Res
     Ok(())
 }
 
-/// Whether the tokens of the text, which is short, say this.
+// Whether the tokens of the text, which is short, say this.
 fn says(alloc: Global, text: &[u8], want: &str) -> Result<bool, AllocError> {
     if text.len() > 100 {
         return Ok(false);

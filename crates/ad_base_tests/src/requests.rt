@@ -2,7 +2,7 @@
 use ad_base::Kind;
 use ad_request::{Request, read_request};
 
-/// What a line asks for, in short, with the number that it names.
+// What a line asks for, in short, with the number that it names.
 fn told(line: &str) -> (&'static str, u64) {
     match read_request(line.as_bytes()) {
         None => ("none", 0),

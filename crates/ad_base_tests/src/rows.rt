@@ -5,7 +5,7 @@ use ad_bits::{Memory, Row};
 use std::alloc::Global;
 use std::test::Fail;
 
-/// A row of this size whose members are the multiples of the step.
+// A row of this size whose members are the multiples of the step.
 fn multiples(alloc: Global, size: u32, step: u32) -> Result<Row, Memory>
     requires { 0 < step }
     ensures { IfOk result (λ row. length row ≡ size) }
@@ -19,7 +19,7 @@ fn multiples(alloc: Global, size: u32, step: u32) -> Result<Row, Memory>
     Ok(row)
 }
 
-/// The members that a row is to have.
+// The members that a row is to have.
 #[derive(Clone, Copy)]
 enum Members {
     None,
@@ -37,7 +37,7 @@ fn is_expected(members: Members, i: u32) -> bool {
     }
 }
 
-/// Whether the row has these members and no others.
+// Whether the row has these members and no others.
 fn has_exactly(row: &Row, members: Members) -> bool {
     for i in 0..row.size() {
         if row.has(i) != is_expected(members, i) {
@@ -47,7 +47,7 @@ fn has_exactly(row: &Row, members: Members) -> bool {
     true
 }
 
-/// Whether `next` finds the next multiple of 3 from each number on.
+// Whether `next` finds the next multiple of 3 from each number on.
 fn finds_threes(row: &Row) -> bool {
     let size = row.size();
     for from in 0..size {
@@ -64,7 +64,7 @@ fn finds_threes(row: &Row) -> bool {
     row.next(size).is_none()
 }
 
-/// Whether the calls that read answer as they are to on the multiples of 3 and of 5.
+// Whether the calls that read answer as they are to on the multiples of 3 and of 5.
 fn reads_agree(threes: &Row, fives: &Row) -> bool
     requires { length threes.now ≡ length fives.now }
 {
@@ -77,7 +77,7 @@ fn reads_agree(threes: &Row, fives: &Row) -> bool
         && fives.is_subset(threes) == (size <= 5)
 }
 
-/// Whether the calls that change an empty row leave what they are to.
+// Whether the calls that change an empty row leave what they are to.
 fn changes_agree(row: &mut Row, threes: &Row, fives: &Row) -> bool
     requires threes { length row.old ≡ length threes.now }
     requires fives { length row.old ≡ length fives.now }
@@ -94,12 +94,12 @@ fn changes_agree(row: &mut Row, threes: &Row, fives: &Row) -> bool
     is_empty && is_copy && is_union && is_rest && is_clear
 }
 
-/// Compiles at a type whose values may go to another thread and be shared there.
+// Compiles at a type whose values may go to another thread and be shared there.
 fn crosses_threads<T: Send + Sync>(_value: &T) -> bool {
     true
 }
 
-/// Whether the last number comes and goes.
+// Whether the last number comes and goes.
 fn last_agrees(row: &mut Row) -> bool {
     let size = row.size();
     if size == 0 {

@@ -6,10 +6,10 @@ use ad_lex::Mark::{
 use ad_lex::{LexRefused, Token, tokens};
 use std::alloc::Global;
 
-/// A token: its mark, and the bytes from which and up to which it stands.
+// A token: its mark, and the bytes from which and up to which it stands.
 type Place = (Mark, u32, u32);
 
-/// Texts, and their tokens.
+// Texts, and their tokens.
 #[rattlefmt::skip]
 static PLACES: [(&[u8], &[Place]); 31] = [
     (b"", &[]),
@@ -45,7 +45,7 @@ static PLACES: [(&[u8], &[Place]); 31] = [
     (b"\xC3\xA4\xE4\xB8\xAD", &[(Plain, 0, 5)]),
 ];
 
-/// Texts that have no tokens, and their first faults.
+// Texts that have no tokens, and their first faults.
 #[rattlefmt::skip]
 static FAULTS: [(&[u8], LexFault); 16] = [
     (b"^", Char { at: 0 }),
@@ -66,7 +66,7 @@ static FAULTS: [(&[u8], LexFault); 16] = [
     (b"a\xE4\xB8", Utf8 { at: 1 }),
 ];
 
-/// Whether these are the tokens.
+// Whether these are the tokens.
 fn are_at(found: &[Token], places: &[Place]) -> bool {
     if found.len() != places.len() {
         return false;
@@ -79,7 +79,7 @@ fn are_at(found: &[Token], places: &[Place]) -> bool {
     true
 }
 
-/// Whether the text, which is short, has these tokens.
+// Whether the text, which is short, has these tokens.
 fn has_tokens(alloc: Global, text: &[u8], places: &[Place]) -> bool {
     if text.len() > 100 {
         return false;
@@ -90,7 +90,7 @@ fn has_tokens(alloc: Global, text: &[u8], places: &[Place]) -> bool {
     }
 }
 
-/// Whether the text, which is short, has this first fault.
+// Whether the text, which is short, has this first fault.
 fn has_fault(alloc: Global, text: &[u8], fault: LexFault) -> bool {
     if text.len() > 100 {
         return false;

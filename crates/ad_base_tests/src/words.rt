@@ -3,14 +3,14 @@ use ad_base::{Memory, Word};
 use std::alloc::Global;
 use std::test::Fail;
 
-/// Whether a word and its copy have these bytes.
+// Whether a word and its copy have these bytes.
 fn is_copied(alloc: Global, text: &str) -> Result<bool, Memory> {
     let word = Word::of(alloc, text)?;
     let copy = word.copy(alloc)?;
     Ok(copy == word && copy.as_str() == text && word.as_bytes() == text.as_bytes())
 }
 
-/// Whether the first word is before the second.
+// Whether the first word is before the second.
 fn is_before(alloc: Global, first: &str, second: &str) -> Result<bool, Memory> {
     let first = Word::of(alloc, first)?;
     let second = Word::of(alloc, second)?;

@@ -4,21 +4,21 @@ use ad_io::{Failed, MemSink, SureSink, Wrote, append, put_all, put_each};
 use std::alloc::Global;
 use std::test::Fail;
 
-/// A sink that takes at most `piece` bytes a call, and fails at one call.
+// A sink that takes at most `piece` bytes a call, and fails at one call.
 fn failing(alloc: Global, piece: u8, fault: u64) -> Result<MemSink, Fail> {
     let fail = vec![in alloc; fault]?;
     let most = usize::from(piece).max(1);
     Ok(MemSink::new(alloc, 100, most, fail)?)
 }
 
-/// Whether the letters are written up to here where this call fails.
+// Whether the letters are written up to here where this call fails.
 fn writes(alloc: Global, piece: u8, fault: u64, written: &str) -> Result<bool, Fail> {
     let mut sink = failing(alloc, piece, fault)?;
     let all = put_all(&mut sink, LETTERS) == Wrote::All;
     Ok(all == (written.len() == 10) && sink.bytes() == written.as_bytes())
 }
 
-/// How many bytes a call takes, the call that fails, and what was written.
+// How many bytes a call takes, the call that fails, and what was written.
 static WRITES: [(u8, u64, &str); 10] = [
     (1, 0, ""),
     (1, 1, "a"),
@@ -43,19 +43,19 @@ fn writes_fail_where_they_are_to(rt: HostRuntime) -> Result<(), Fail> {
     Ok(())
 }
 
-/// The letters between brackets, as a list of pieces.
+// The letters between brackets, as a list of pieces.
 fn put_bracketed(sink: &mut MemSink) -> Wrote {
     put_each(sink, &[b"(".as_slice(), LETTERS, b")".as_slice()])
 }
 
-/// The letters between brackets, by `?`.
+// The letters between brackets, by `?`.
 fn append_bracketed(sink: &mut MemSink) -> Result<(), Failed> {
     append(sink, b"(")?;
     append(sink, LETTERS)?;
     append(sink, b")")
 }
 
-/// The calls of seven bytes that fail, and what is written of the brackets and the letters.
+// The calls of seven bytes that fail, and what is written of the brackets and the letters.
 static BRACKETS: [(u64, &str); 5] = [
     (0, ""),
     (1, "("),
@@ -64,14 +64,14 @@ static BRACKETS: [(u64, &str); 5] = [
     (4, "(abcdefghij)"),
 ];
 
-/// Whether a list of pieces is written up to here.
+// Whether a list of pieces is written up to here.
 fn puts(alloc: Global, fault: u64, written: &str) -> Result<bool, Fail> {
     let mut sink = failing(alloc, 7, fault)?;
     let all = put_bracketed(&mut sink) == Wrote::All;
     Ok(all == (fault == 4) && sink.bytes() == written.as_bytes())
 }
 
-/// Whether pieces that are written by `?` are written up to here.
+// Whether pieces that are written by `?` are written up to here.
 fn appends(alloc: Global, fault: u64, written: &str) -> Result<bool, Fail> {
     let mut sink = failing(alloc, 7, fault)?;
     let all = Wrote::from(append_bracketed(&mut sink)) == Wrote::All;

@@ -5,7 +5,7 @@ use Rattle.std.specs.Option.{option_map, option_zip}
 use Rattle.std.specs.List.{AllByRecursion}
 use Rattle.ad_lex.specs.Lexemes as says
 use Rattle.ad_write.specs.Keywords as kw
-use Rattle.ad_write.specs.Canonical.{kind_word}
+use Rattle.ad_write.specs.Canonical.{entity_kind_word}
 use Rattle.ad_grammar.specs.Names.{Words, IsName, SpellsProperty, SpellsIndividual, SpellsLiteral, SpellsSubject, SpellsValue, SpellsEntity}
 use Rattle.ad_grammar.specs.Shapes.{Text, Then, Group, Compound, Many0, Many1}
 use Rattle.ad_grammar.specs.Phrases.{SpellsRange, SpellsClass, SpellsAnnotation}
@@ -74,7 +74,7 @@ module _ (words : Words) where
   pub notes_read : (notes : List Annotation) (ts : Text) → Many0 (SpellsAnnotation words) notes ts → Gathers words (map i.Note notes) ts
   notes_read notes ts ss = notes_gather notes (for_all IsNote annotations_read notes) ts ss
 
-  kind_known : (kind : EntityKind) → keyword_of (kind_word kind) ≡ Some (keyword.Entity kind)
+  kind_known : (kind : EntityKind) → keyword_of (entity_kind_word kind) ≡ Some (keyword.Entity kind)
   kind_known kinds.Class = refl
   kind_known kinds.Datatype = refl
   kind_known kinds.ObjectProperty = refl
@@ -87,7 +87,7 @@ module _ (words : Words) where
     item = i.Entity x;
     is = refl;
     other = refl;
-    phrase = made words (kind_word x.kind) (i.Name x.name ∷ []) (i.Entity x) inner ts (single words (i.Name x.name) inner (name_reads words x.name inner n)) e
+    phrase = made words (entity_kind_word x.kind) (i.Name x.name ∷ []) (i.Entity x) inner ts (single words (i.Name x.name) inner (name_reads words x.name inner n)) e
         (ap (λ o. built_if o (i.Name x.name ∷ [])) (kind_known x.kind)) refl;
   }
 

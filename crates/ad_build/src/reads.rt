@@ -18,7 +18,7 @@ use ad_terms::{
 use ad_tree::{Annotation, Entity, EntityKind, Literal, Noted, Sign, Value};
 use std::alloc::Global;
 
-/// What the tokens of a text from this one on stand for, read from the last to the first.
+// What the tokens of a text from this one on stand for, read from the last to the first.
 pub(crate) fn reads(
     alloc: Global,
     text: &[u8],
@@ -40,7 +40,7 @@ pub(crate) fn reads(
     Ok(items)
 }
 
-/// Puts what a token stands for before the items of the tokens behind it.
+// Puts what a token stands for before the items of the tokens behind it.
 fn put(
     alloc: Global,
     text: &[u8],
@@ -70,7 +70,7 @@ fn put(
     }
 }
 
-/// The name of a prefix and a local part.
+// The name of a prefix and a local part.
 fn named(alloc: Global, prefix: &str, local: &str, prefixes: &Prefixes) -> Result<StackItem, Memory>
     ensures { IfOk result (λ item. item ≡ named local.now (in_force (declarations prefixes.now) prefix.now)) }
 {
@@ -80,7 +80,7 @@ fn named(alloc: Global, prefix: &str, local: &str, prefixes: &Prefixes) -> Resul
     }
 }
 
-/// Puts a string with what may stand behind it.
+// Puts a string with what may stand behind it.
 fn put_text(value: Word, items: &mut Stack) -> Result<(), Memory>
     ensures { OnOk result (items.new ≡ put_text value items.old) }
 {
@@ -95,7 +95,7 @@ fn put_text(value: Word, items: &mut Stack) -> Result<(), Memory>
     }
 }
 
-/// Puts a string behind which `^^` stood.
+// Puts a string behind which `^^` stood.
 fn put_typed(value: Word, items: &mut Stack) -> Result<(), Memory>
     ensures { OnOk result (items.new ≡ put_text value (i.Carets ∷ items.old)) }
 {
@@ -115,7 +115,7 @@ fn put_typed(value: Word, items: &mut Stack) -> Result<(), Memory>
     }
 }
 
-/// Puts a word: with a parenthesis behind it a keyword with its arguments, else a number.
+// Puts a word: with a parenthesis behind it a keyword with its arguments, else a number.
 fn put_word(alloc: Global, word: &str, items: &mut Stack) -> Result<(), Memory>
     ensures { OnOk result (items.new ≡ put_word word.now items.old) }
 {
@@ -132,7 +132,7 @@ fn put_word(alloc: Global, word: &str, items: &mut Stack) -> Result<(), Memory>
     }
 }
 
-/// The number that a word is.
+// The number that a word is.
 fn number(word: &str) -> StackItem
     ensures { result ≡ unless_broken i.Number (number_of word.now) }
 {
@@ -142,7 +142,7 @@ fn number(word: &str) -> StackItem
     }
 }
 
-/// The number that a word of digits is, if it is one of 32 bits.
+// The number that a word of digits is, if it is one of 32 bits.
 fn number_of(word: &str) -> Option<u32>
     ensures { result ≡ number_of word.now }
 {
@@ -153,7 +153,7 @@ fn number_of(word: &str) -> Option<u32>
     }
 }
 
-/// What a keyword and its arguments stand for.
+// What a keyword and its arguments stand for.
 fn built(alloc: Global, word: &str, arguments: Stack) -> Result<StackItem, Memory>
     ensures { IfOk result (λ item. item ≡ built word.now arguments) }
 {
@@ -177,7 +177,7 @@ fn built_by(alloc: Global, keyword: Keyword, arguments: Stack) -> Result<StackIt
     }
 }
 
-/// The inverse of a property.
+// The inverse of a property.
 fn inverse(arguments: Stack) -> StackItem
     ensures { result ≡ built_by keyword.Inverse arguments }
 {
@@ -187,7 +187,7 @@ fn inverse(arguments: Stack) -> StackItem
     }
 }
 
-/// A chain of properties.
+// A chain of properties.
 fn chain(alloc: Global, arguments: Stack) -> Result<StackItem, Memory>
     ensures { IfOk result (λ item. item ≡ built_by keyword.Chain arguments) }
 {
@@ -197,7 +197,7 @@ fn chain(alloc: Global, arguments: Stack) -> Result<StackItem, Memory>
     }
 }
 
-/// A data range.
+// A data range.
 fn range(alloc: Global, word: RangeWord, arguments: Stack) -> Result<StackItem, Memory>
     ensures { IfOk result (λ item. item ≡ built_by (keyword.Range word) arguments) }
 {
@@ -207,7 +207,7 @@ fn range(alloc: Global, word: RangeWord, arguments: Stack) -> Result<StackItem, 
     }
 }
 
-/// A class expression.
+// A class expression.
 fn class(alloc: Global, word: ClassWord, arguments: Stack) -> Result<StackItem, Memory>
     ensures { IfOk result (λ item. item ≡ built_by (keyword.Class word) arguments) }
 {
@@ -217,7 +217,7 @@ fn class(alloc: Global, word: ClassWord, arguments: Stack) -> Result<StackItem, 
     }
 }
 
-/// An entity of this kind.
+// An entity of this kind.
 fn declared(kind: EntityKind, arguments: Stack) -> StackItem
     ensures { result ≡ built_by (keyword.Entity kind) arguments }
 {
@@ -227,7 +227,7 @@ fn declared(kind: EntityKind, arguments: Stack) -> StackItem
     }
 }
 
-/// An annotation behind its own annotations.
+// An annotation behind its own annotations.
 fn annotated(alloc: Global, mut arguments: Stack) -> Result<StackItem, Memory>
     ensures { IfOk result (λ item. item ≡ built_by keyword.Annotation arguments) }
 {
@@ -243,7 +243,7 @@ fn annotated(alloc: Global, mut arguments: Stack) -> Result<StackItem, Memory>
     }
 }
 
-/// An axiom behind its annotations.
+// An axiom behind its annotations.
 fn stated(alloc: Global, word: AxiomWord, mut arguments: Stack) -> Result<StackItem, Memory>
     ensures { IfOk result (λ item. item ≡ built_by (keyword.Axiom word) arguments) }
 {

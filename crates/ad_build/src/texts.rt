@@ -79,7 +79,7 @@ pub fn build_entities(
     Ok(found)
 }
 
-/// The operations that these items are.
+// The operations that these items are.
 fn operations(alloc: Global, mut items: Stack) -> Result<Option<Batch>, Memory>
     requires { length items < 2 ^ 32 }
     ensures { IfOk result (λ found. found ≡ operations items) }
@@ -94,7 +94,7 @@ fn operations(alloc: Global, mut items: Stack) -> Result<Option<Batch>, Memory>
     Ok(Some(batch))
 }
 
-/// Takes the operation of a sign and the axiom behind it.
+// Takes the operation of a sign and the axiom behind it.
 fn operation(items: &mut Stack) -> Option<Op>
     ensures found { result ≡ operation items.old }
     ensures behind { items.new ≡ behind_top (behind_top items.old) }
@@ -103,7 +103,7 @@ fn operation(items: &mut Stack) -> Option<Op>
     found.map(|(sign, noted)| Op { sign, noted })
 }
 
-/// The axioms of an ontology, behind its names and its annotations.
+// The axioms of an ontology, behind its names and its annotations.
 fn stated(alloc: Global, mut items: Stack) -> Result<Option<Batch>, Memory>
     requires { length items < 2 ^ 32 }
     ensures { IfOk result (λ found. found ≡ additions (leading_notes (behind_names items)).1) }
@@ -113,7 +113,7 @@ fn stated(alloc: Global, mut items: Stack) -> Result<Option<Batch>, Memory>
     additions(alloc, items)
 }
 
-/// The axioms up to the parenthesis that closes the ontology, each as an addition.
+// The axioms up to the parenthesis that closes the ontology, each as an addition.
 fn additions(alloc: Global, mut items: Stack) -> Result<Option<Batch>, Memory>
     requires { length items < 2 ^ 32 }
     ensures { IfOk result (λ found. found ≡ additions items) }
@@ -129,7 +129,7 @@ fn additions(alloc: Global, mut items: Stack) -> Result<Option<Batch>, Memory>
     Ok(None)
 }
 
-/// The addition of an axiom.
+// The addition of an axiom.
 fn addition(noted: Noted) -> Op
     ensures { result ≡ addition noted }
 {
@@ -139,7 +139,7 @@ fn addition(noted: Noted) -> Op
     }
 }
 
-/// The entities that these items are.
+// The entities that these items are.
 fn entities(alloc: Global, mut items: Stack) -> Result<Option<Seed>, Memory>
     ensures { IfOk result (λ found. found ≡ each as_entity items) }
 {

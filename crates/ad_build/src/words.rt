@@ -8,7 +8,7 @@ use ad_terms::{
 use ad_tree::EntityKind;
 use ad_write::keywords;
 
-/// All keywords, each with how it is spelled.
+// All keywords, each with how it is spelled.
 static KEYWORDS: [(&str, Keyword); 68] = [
     (keywords::ANNOTATION, Keyword::Annotation),
     (keywords::OBJECT_INVERSE_OF, Keyword::Inverse),
@@ -267,7 +267,7 @@ pub fn keyword_of(word: &str) -> Option<Keyword>
     keyword_among(&KEYWORDS, word)
 }
 
-/// The first of these keywords that is spelled so.
+// The first of these keywords that is spelled so.
 fn keyword_among(keywords: &[(&str, Keyword)], word: &str) -> Option<Keyword>
     ensures { result ≡ keyword_among (map (λ k. (k.0.now, k.1)) keywords.now) word.now }
 {

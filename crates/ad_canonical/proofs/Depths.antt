@@ -4,7 +4,7 @@ use Rattle.std.specs.List.{AllByRecursion}
 use Rattle.ad_lex.specs.Lexemes.{Lexeme}
 use Rattle.ad_lex.specs.Lexemes as says
 use Rattle.ad_write.specs.Keywords as kw
-use Rattle.ad_write.specs.Canonical.{kind_word}
+use Rattle.ad_write.specs.Canonical.{entity_kind_word}
 use Rattle.ad_entity.specs.declared.entities.Entity.{Entity}
 use Rattle.ad_tree.specs.declared.names.ObjProp.{ObjProp}
 use Rattle.ad_tree.specs.declared.names.ObjProp.TheVariants as props
@@ -143,4 +143,4 @@ value (values.Anonymous l) = label l
 value (values.Literal l) = literal l
 
 pub entity : (e : Entity) → Deep (λ words. SpellsEntity words e)
-entity e = inside (kind_word e.kind) (name e.name)
+entity e = inside (entity_kind_word e.kind) (name e.name)

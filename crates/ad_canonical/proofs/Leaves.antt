@@ -13,7 +13,7 @@ use Rattle.ad_lex.specs.Lexemes as says
 use Rattle.ad_lex.specs.Characters.{is_iri}
 use Rattle.ad_lex.proofs.Keywords.{plain_shape, node_shape, lang_shape}
 use Rattle.ad_write.specs.Keywords as kw
-use Rattle.ad_write.specs.Canonical.{canon_iri, canon_anonymous, escaped, quoted, canon_literal, canon_property, canon_individual, canon_facet, canon_subject, canon_value, kind_word, canon_entity}
+use Rattle.ad_write.specs.Canonical.{canon_iri, canon_anonymous, escaped, quoted, canon_literal, canon_property, canon_individual, canon_facet, canon_subject, canon_value, entity_kind_word, canon_entity}
 use Rattle.ad_entity.specs.declared.entities.EntityKind.{EntityKind}
 use Rattle.ad_entity.specs.declared.entities.EntityKind.TheVariants as kinds
 use Rattle.ad_entity.specs.declared.entities.Entity.{Entity}
@@ -131,7 +131,7 @@ value (values.Iri n) h = name n h
 value (values.Anonymous label) h = anonymous label h
 value (values.Literal l) h = literal l h
 
-kind_is_word : (k : EntityKind) → is_word (kind_word k) ≡ true
+kind_is_word : (k : EntityKind) → is_word (entity_kind_word k) ≡ true
 kind_is_word kinds.Class = refl
 kind_is_word kinds.Datatype = refl
 kind_is_word kinds.ObjectProperty = refl
@@ -140,4 +140,4 @@ kind_is_word kinds.AnnotationProperty = refl
 kind_is_word kinds.NamedIndividual = refl
 
 pub entity : (e : Entity) → SpellableEntity e → Written (canon_entity e) (λ words. SpellsEntity words e)
-entity e h = phrase (kind_word e.kind) (kind_is_word e.kind) (canon_iri e.name ∷ []) (name e.name h)
+entity e h = phrase (entity_kind_word e.kind) (kind_is_word e.kind) (canon_iri e.name ∷ []) (name e.name h)

@@ -3,7 +3,7 @@ use Rattle.std.proofs.Common.{◌≡◌, ◌≢◌, ℕ, ◌<◌, List, [], ◌�
 use Rattle.std.specs.List.{AllByRecursion}
 use Rattle.ad_lex.specs.Lexemes as says
 use Rattle.ad_write.specs.Keywords as kw
-use Rattle.ad_write.specs.Canonical.{kind_word}
+use Rattle.ad_write.specs.Canonical.{entity_kind_word}
 use Rattle.ad_entity.specs.declared.entities.Entity.{Entity}
 use Rattle.ad_tree.specs.declared.names.ObjProp.{ObjProp}
 use Rattle.ad_tree.specs.declared.names.ObjProp.TheVariants as props
@@ -111,4 +111,4 @@ module _ (words : Words) (sound : AreSoundWords words) where
   value (values.Literal l) = literal l
 
   pub entity : (e : Entity) → Gives (SpellsEntity words e) (SpellableEntity e)
-  entity e = inside (kind_word e.kind) (name e.name)
+  entity e = inside (entity_kind_word e.kind) (name e.name)

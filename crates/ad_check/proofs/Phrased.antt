@@ -5,7 +5,7 @@ use Rattle.std.specs.Str.Parse.{digits_value}
 use Rattle.ad_lex.specs.Lexemes.{Lexeme}
 use Rattle.ad_lex.specs.Lexemes as says
 use Rattle.ad_write.specs.Keywords as kw
-use Rattle.ad_write.specs.Canonical.{kind_word}
+use Rattle.ad_write.specs.Canonical.{entity_kind_word}
 use Rattle.ad_tree.specs.declared.names.ObjProp.{ObjProp}
 use Rattle.ad_tree.specs.declared.names.ObjProp.TheVariants as props
 use Rattle.ad_tree.specs.declared.names.Individual.{Individual}
@@ -144,7 +144,7 @@ module _ (w : Bool) where
     pub takes_chain : (xs : List ObjProp) (ts : Text) → Compound kw.ObjectPropertyChain (Many1 (SpellsProperty words) xs) ts → Takes w kind.Link ts
     takes_chain xs ts h = compound w kind.Link kw.ObjectPropertyChain (it.One kind.Property ∷ it.Until kind.Property ∷ []) (Many1 (SpellsProperty words) xs) refl (c_some w kind.Property (SpellsProperty words) xs (all_each _ takes_property xs)) ts h
 
-    entity_by : (k : EntityKind) (name : List ℕ) (ts : Text) → Compound (kind_word k) (IsName words name) ts → Takes w kind.Entity ts
+    entity_by : (k : EntityKind) (name : List ℕ) (ts : Text) → Compound (entity_kind_word k) (IsName words name) ts → Takes w kind.Entity ts
     entity_by kinds.Class name ts h = compound w kind.Entity kw.Class (it.One kind.Name ∷ it.Right ∷ []) (IsName words name) refl (c_last w kind.Name (IsName words name) (takes_name kind.Name refl name)) ts h
     entity_by kinds.Datatype name ts h = compound w kind.Entity kw.Datatype (it.One kind.Name ∷ it.Right ∷ []) (IsName words name) refl (c_last w kind.Name (IsName words name) (takes_name kind.Name refl name)) ts h
     entity_by kinds.ObjectProperty name ts h = compound w kind.Entity kw.ObjectProperty (it.One kind.Name ∷ it.Right ∷ []) (IsName words name) refl (c_last w kind.Name (IsName words name) (takes_name kind.Name refl name)) ts h

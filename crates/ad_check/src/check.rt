@@ -11,7 +11,7 @@ use crate::items::{Halt, Nonterminal, Symbol};
 use crate::tokens::{goes_wide, is_import, is_name, is_sign, row, token_at};
 use ad_lex::{Mark, Token};
 
-/// Checks one token that no phrase begins with.
+// Checks one token that no phrase begins with.
 fn check_sign(text: &[u8], tokens: &[Token], from: usize, item: Symbol) -> Result<usize, Halt>
     requires tokens { AreTokensOf text.now tokens.now }
     requires from { from ≤ length tokens.now }
@@ -36,7 +36,7 @@ fn check_sign(text: &[u8], tokens: &[Token], from: usize, item: Symbol) -> Resul
     }
 }
 
-/// Checks a phrase of a kind.
+// Checks a phrase of a kind.
 #[cycle(check)]
 pub(crate) fn check(
     text: &[u8],
@@ -64,7 +64,7 @@ pub(crate) fn check(
     }
 }
 
-/// Checks items, one after the other.
+// Checks items, one after the other.
 #[cycle(check)]
 pub(crate) fn check_items(
     text: &[u8],
@@ -83,7 +83,7 @@ pub(crate) fn check_items(
     Ok(at)
 }
 
-/// Checks one item.
+// Checks one item.
 #[cycle(check)]
 fn check_item(text: &[u8], tokens: &[Token], from: usize, item: Symbol) -> Result<usize, Halt>
     requires tokens { AreTokensOf text.now tokens.now }
@@ -109,7 +109,7 @@ fn check_item(text: &[u8], tokens: &[Token], from: usize, item: Symbol) -> Resul
     }
 }
 
-/// Checks what stands behind the string of a literal.
+// Checks what stands behind the string of a literal.
 #[cycle(check)]
 fn check_tail(text: &[u8], tokens: &[Token], from: usize) -> Result<usize, Halt>
     requires tokens { AreTokensOf text.now tokens.now }
@@ -126,7 +126,7 @@ fn check_tail(text: &[u8], tokens: &[Token], from: usize) -> Result<usize, Halt>
     }
 }
 
-/// Checks the range of a restriction on data, and the parenthesis behind it.
+// Checks the range of a restriction on data, and the parenthesis behind it.
 #[cycle(check)]
 fn check_filler(text: &[u8], tokens: &[Token], from: usize) -> Result<usize, Halt>
     requires tokens { AreTokensOf text.now tokens.now }
@@ -149,7 +149,7 @@ fn check_filler(text: &[u8], tokens: &[Token], from: usize) -> Result<usize, Hal
     }
 }
 
-/// Checks the parenthesis that closes a restriction on data.
+// Checks the parenthesis that closes a restriction on data.
 fn check_end(text: &[u8], tokens: &[Token], from: usize) -> Result<usize, Halt>
     requires tokens { AreTokensOf text.now tokens.now }
     requires from { from ≤ length tokens.now }
@@ -171,7 +171,7 @@ fn check_end(text: &[u8], tokens: &[Token], from: usize) -> Result<usize, Halt>
     }
 }
 
-/// Checks the annotations and axioms of an ontology, and the parenthesis behind them.
+// Checks the annotations and axioms of an ontology, and the parenthesis behind them.
 #[cycle(check)]
 fn check_body(text: &[u8], tokens: &[Token], from: usize) -> Result<usize, Halt>
     requires tokens { AreTokensOf text.now tokens.now }
@@ -197,7 +197,7 @@ fn check_body(text: &[u8], tokens: &[Token], from: usize) -> Result<usize, Halt>
     }
 }
 
-/// Checks any number of phrases.
+// Checks any number of phrases.
 #[cycle(check)]
 fn check_star(text: &[u8], tokens: &[Token], from: usize, kind: Nonterminal) -> Result<usize, Halt>
     requires tokens { AreTokensOf text.now tokens.now }
@@ -214,7 +214,7 @@ fn check_star(text: &[u8], tokens: &[Token], from: usize, kind: Nonterminal) -> 
     Ok(at)
 }
 
-/// Checks a phrase that may be absent.
+// Checks a phrase that may be absent.
 #[cycle(check)]
 fn check_maybe(text: &[u8], tokens: &[Token], from: usize, kind: Nonterminal) -> Result<usize, Halt>
     requires tokens { AreTokensOf text.now tokens.now }
@@ -230,7 +230,7 @@ fn check_maybe(text: &[u8], tokens: &[Token], from: usize, kind: Nonterminal) ->
     }
 }
 
-/// Checks any number of phrases, and the parenthesis behind them.
+// Checks any number of phrases, and the parenthesis behind them.
 #[cycle(check)]
 fn check_until(text: &[u8], tokens: &[Token], from: usize, kind: Nonterminal) -> Result<usize, Halt>
     requires tokens { AreTokensOf text.now tokens.now }

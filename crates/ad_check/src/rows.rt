@@ -13,19 +13,19 @@ use crate::items::Symbol::{
 use crate::items::{Nonterminal, Production, Symbol};
 use ad_write::keywords;
 
-/// An object property that begins with a keyword.
+// An object property that begins with a keyword.
 #[rattlefmt::skip]
 static PROPERTY: [Production; 1] = [
     Production { word: keywords::OBJECT_INVERSE_OF, items: &[Left, One(Name), Right] },
 ];
 
-/// A chain of object properties.
+// A chain of object properties.
 #[rattlefmt::skip]
 static CHAIN: [Production; 1] = [
     Production { word: keywords::OBJECT_PROPERTY_CHAIN, items: &[Left, One(Property), Until(Property)] },
 ];
 
-/// Data ranges.
+// Data ranges.
 #[rattlefmt::skip]
 static RANGE: [Production; 5] = [
     Production { word: keywords::DATA_INTERSECTION_OF, items: &[Left, One(Range), Until(Range)] },
@@ -35,7 +35,7 @@ static RANGE: [Production; 5] = [
     Production { word: keywords::DATATYPE_RESTRICTION, items: &[Left, One(Name), One(Facet), Until(Facet)] },
 ];
 
-/// Class expressions.
+// Class expressions.
 #[rattlefmt::skip]
 static CLASS: [Production; 17] = [
     Production { word: keywords::OBJECT_INTERSECTION_OF, items: &[Left, One(Class), Until(Class)] },
@@ -57,13 +57,13 @@ static CLASS: [Production; 17] = [
     Production { word: keywords::DATA_EXACT_CARDINALITY, items: &[Left, One(Number), One(Name), Maybe(Range), Right] },
 ];
 
-/// Annotations.
+// Annotations.
 #[rattlefmt::skip]
 static NOTE: [Production; 1] = [
     Production { word: keywords::ANNOTATION, items: &[Left, Star(Note), One(Name), One(Value), Right] },
 ];
 
-/// Entities.
+// Entities.
 #[rattlefmt::skip]
 static ENTITY: [Production; 6] = [
     Production { word: keywords::CLASS, items: &[Left, One(Name), Right] },
@@ -74,7 +74,7 @@ static ENTITY: [Production; 6] = [
     Production { word: keywords::NAMED_INDIVIDUAL, items: &[Left, One(Name), Right] },
 ];
 
-/// Logical axioms.
+// Logical axioms.
 #[rattlefmt::skip]
 static LOGICAL: [Production; 32] = [
     Production { word: keywords::SUB_CLASS_OF, items: &[Left, Star(Note), One(Class), One(Class), Right] },
@@ -111,7 +111,7 @@ static LOGICAL: [Production; 32] = [
     Production { word: keywords::NEGATIVE_DATA_PROPERTY_ASSERTION, items: &[Left, Star(Note), One(Name), One(Individual), One(Literal), Right] },
 ];
 
-/// Axioms that are carried.
+// Axioms that are carried.
 #[rattlefmt::skip]
 static CARRIED: [Production; 5] = [
     Production { word: keywords::DECLARATION, items: &[Left, Star(Note), One(Entity), Right] },
@@ -121,19 +121,19 @@ static CARRIED: [Production; 5] = [
     Production { word: keywords::ANNOTATION_PROPERTY_RANGE, items: &[Left, Star(Note), One(Name), One(Name), Right] },
 ];
 
-/// Prefix declarations.
+// Prefix declarations.
 #[rattlefmt::skip]
 static PREFIX: [Production; 1] = [
     Production { word: keywords::PREFIX, items: &[Left, Label, Equals, Full, Right] },
 ];
 
-/// Ontologies.
+// Ontologies.
 #[rattlefmt::skip]
 static ONTOLOGY: [Production; 1] = [
     Production { word: keywords::ONTOLOGY, items: &[Left, Maybe(Name), Maybe(Name), Body] },
 ];
 
-/// The row of a keyword.
+// The row of a keyword.
 fn row_of(rows: &[Production], word: &str) -> Option<&'static [Symbol]>
     ensures { option_copied result ≡ lookup (map entry_of rows.now) word.now }
 {
@@ -145,7 +145,7 @@ fn row_of(rows: &[Production], word: &str) -> Option<&'static [Symbol]>
     None
 }
 
-/// The row of a keyword at which a phrase may begin.
+// The row of a keyword at which a phrase may begin.
 pub(crate) fn keyword_row(kind: Nonterminal, word: &str) -> Option<&'static [Symbol]>
     ensures { option_copied result ≡ lookup (plain_table kind) word.now }
 {

@@ -33,7 +33,7 @@ pub struct Stop {
     pub what: Option<Unsupported>,
 }
 
-/// Which part of the wide grammar goes on at a token.
+// Which part of the wide grammar goes on at a token.
 fn addition(text: &[u8], token: Token) -> Unsupported
     requires { IsTokenOf text.now token }
     ensures { IsAddition result (lexeme text.now token) }
@@ -47,7 +47,7 @@ fn addition(text: &[u8], token: Token) -> Unsupported
     }
 }
 
-/// The stop with what goes on there.
+// The stop with what goes on there.
 fn stop_of(text: &[u8], tokens: &[Token], halt: Halt) -> Stop
     requires tokens { AreTokensOf text.now tokens.now }
     requires few { length tokens.now < 2 ^ 32 }
@@ -67,7 +67,7 @@ fn stop_of(text: &[u8], tokens: &[Token], halt: Halt) -> Stop
     }
 }
 
-/// Checks a whole text.
+// Checks a whole text.
 fn check_text(text: &[u8], tokens: &[Token], items: &[Symbol]) -> Result<(), Stop>
     requires tokens { AreTokensOf text.now tokens.now }
     requires few { length tokens.now < 2 ^ 32 }
@@ -92,7 +92,7 @@ fn check_text(text: &[u8], tokens: &[Token], items: &[Symbol]) -> Result<(), Sto
     }
 }
 
-/// Checks the longest phrase of a kind from a token on.
+// Checks the longest phrase of a kind from a token on.
 fn longest(text: &[u8], tokens: &[Token], from: u32, kind: Nonterminal) -> Result<u32, Stop>
     requires tokens { AreTokensOf text.now tokens.now }
     requires few { length tokens.now < 2 ^ 32 }
@@ -116,7 +116,7 @@ pub enum Phrase {
 }
 
 impl Phrase {
-    /// The kind of phrase that the table of rows has.
+    // The kind of phrase that the table of rows has.
     fn kind(self) -> Nonterminal
         ensures { start (form_of self) ≡ it.One result ∷ [] }
     {

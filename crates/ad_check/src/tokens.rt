@@ -11,7 +11,7 @@ use crate::rows::keyword_row;
 use ad_lex::{Mark, Token};
 use ad_write::keywords;
 
-/// The token at a place, or none at the end of the text.
+// The token at a place, or none at the end of the text.
 pub(crate) fn token_at(text: &[u8], tokens: &[Token], at: usize) -> Option<Token>
     requires tokens { AreTokensOf text.now tokens.now }
     requires at { at ≤ length tokens.now }
@@ -24,7 +24,7 @@ pub(crate) fn token_at(text: &[u8], tokens: &[Token], at: usize) -> Option<Token
     }
 }
 
-/// What stands behind a name in a phrase that begins with it.
+// What stands behind a name in a phrase that begins with it.
 fn named_row(kind: Nonterminal) -> Option<&'static [Symbol]>
     ensures { option_copied result ≡ named kind }
 {
@@ -50,7 +50,7 @@ fn named_row(kind: Nonterminal) -> Option<&'static [Symbol]>
     }
 }
 
-/// What stands behind the label of an anonymous individual in a phrase that begins with it.
+// What stands behind the label of an anonymous individual in a phrase that begins with it.
 fn labelled_row(kind: Nonterminal) -> Option<&'static [Symbol]>
     ensures { option_copied result ≡ labelled kind }
 {
@@ -60,7 +60,7 @@ fn labelled_row(kind: Nonterminal) -> Option<&'static [Symbol]>
     }
 }
 
-/// What stands behind a string in a phrase that begins with it.
+// What stands behind a string in a phrase that begins with it.
 fn quoted_row(kind: Nonterminal) -> Option<&'static [Symbol]>
     ensures { option_copied result ≡ quoted kind }
 {
@@ -70,7 +70,7 @@ fn quoted_row(kind: Nonterminal) -> Option<&'static [Symbol]>
     }
 }
 
-/// What stands behind a sign in a phrase that begins with it.
+// What stands behind a sign in a phrase that begins with it.
 fn signed_row(kind: Nonterminal) -> Option<&'static [Symbol]>
     ensures { option_copied result ≡ signed kind }
 {
@@ -80,7 +80,7 @@ fn signed_row(kind: Nonterminal) -> Option<&'static [Symbol]>
     }
 }
 
-/// Whether a word is a number of 32 bits.
+// Whether a word is a number of 32 bits.
 fn is_numeral(word: &str) -> bool
     ensures { result ≡ is_number word.now }
 {
@@ -94,7 +94,7 @@ fn is_numeral(word: &str) -> bool
     }
 }
 
-/// What stands behind a word in a phrase that begins with it.
+// What stands behind a word in a phrase that begins with it.
 fn word_row(kind: Nonterminal, word: &str) -> Option<&'static [Symbol]>
     ensures { option_copied result ≡ (if counts kind word.now then Some [] else lookup (machine.table false kind) word.now) }
 {
@@ -104,7 +104,7 @@ fn word_row(kind: Nonterminal, word: &str) -> Option<&'static [Symbol]>
     }
 }
 
-/// What stands behind a token in a phrase of the kind that begins with it, if one does.
+// What stands behind a token in a phrase of the kind that begins with it, if one does.
 pub(crate) fn row(text: &[u8], token: Token, kind: Nonterminal) -> Option<&'static [Symbol]>
     requires { IsTokenOf text.now token }
     ensures { option_copied result ≡ machine.row false kind (lexeme text.now token) }
@@ -125,7 +125,7 @@ pub(crate) fn row(text: &[u8], token: Token, kind: Nonterminal) -> Option<&'stat
     }
 }
 
-/// Whether the wide grammar alone has a phrase of the kind that begins with this token.
+// Whether the wide grammar alone has a phrase of the kind that begins with this token.
 pub(crate) fn goes_wide(text: &[u8], token: Token, kind: Nonterminal) -> bool
     requires { IsTokenOf text.now token }
     ensures { result ≡ machine.goes_wide kind (lexeme text.now token) }
@@ -140,7 +140,7 @@ pub(crate) fn goes_wide(text: &[u8], token: Token, kind: Nonterminal) -> bool
     }
 }
 
-/// Whether the token is the word of an import.
+// Whether the token is the word of an import.
 pub(crate) fn is_import(text: &[u8], token: Token) -> bool
     requires { IsTokenOf text.now token }
     ensures { result ≡ machine.imports (lexeme text.now token) }
@@ -151,7 +151,7 @@ pub(crate) fn is_import(text: &[u8], token: Token) -> bool
     }
 }
 
-/// Whether the token is the word of a rule.
+// Whether the token is the word of a rule.
 pub(crate) fn is_rule(text: &[u8], token: Token) -> bool
     requires { IsTokenOf text.now token }
     ensures { result ≡ machine.rules (lexeme text.now token) }
@@ -162,7 +162,7 @@ pub(crate) fn is_rule(text: &[u8], token: Token) -> bool
     }
 }
 
-/// Whether the token is a name.
+// Whether the token is a name.
 pub(crate) fn is_name(text: &[u8], token: Token) -> bool
     requires { IsTokenOf text.now token }
     ensures { result ≡ machine.is_name (lexeme text.now token) }
@@ -170,7 +170,7 @@ pub(crate) fn is_name(text: &[u8], token: Token) -> bool
     matches!(token.mark, Mark::Iri | Mark::Short)
 }
 
-/// Whether the item is this one token.
+// Whether the item is this one token.
 pub(crate) fn is_sign(text: &[u8], token: Token, item: Symbol) -> bool
     requires token { IsTokenOf text.now token }
     requires sign { IsSign item }

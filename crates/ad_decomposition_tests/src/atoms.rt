@@ -6,7 +6,7 @@ use std::test::Fail;
 
 const NONE: [bool; 4] = [false; 4];
 
-/// The first of these atoms begins with slot 3, and slot 1 is in none.
+// The first of these atoms begins with slot 3, and slot 1 is in none.
 fn two_atoms(alloc: Global) -> Result<Atoms, Memory> {
     let atom_of = vec![in alloc; Some(1), None, Some(0), Some(0)]?;
     let firsts = vec![in alloc; 3, 0]?;
@@ -14,7 +14,7 @@ fn two_atoms(alloc: Global) -> Result<Atoms, Memory> {
     Ok(Atoms::of(atom_of, firsts, sizes, 1))
 }
 
-/// Whether there are two atoms with these first slots and sizes.
+// Whether there are two atoms with these first slots and sizes.
 fn are_two(atoms: &Atoms, firsts: [u32; 2], sizes: [u32; 2]) -> bool {
     atoms.count() == 2
         && atoms.first(0) == firsts[0]

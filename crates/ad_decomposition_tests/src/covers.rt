@@ -3,7 +3,7 @@ use ad_base::Memory;
 use std::alloc::Global;
 use std::test::Fail;
 
-/// The atom in the middle has two axioms.
+// The atom in the middle has two axioms.
 fn chain(alloc: Global) -> Result<Found, Memory> {
     let modules = [
         [true, true, true, true],
@@ -33,7 +33,7 @@ fn covers_of_a_chain(rt: HostRuntime) -> Result<(), Fail> {
     Ok(())
 }
 
-/// The lowest atom comes first.
+// The lowest atom comes first.
 fn diamond(alloc: Global) -> Result<Found, Memory> {
     let modules = [
         [true, false, false, false],

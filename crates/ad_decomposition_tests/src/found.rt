@@ -9,7 +9,7 @@ use ad_theory::empty_row;
 use std::alloc::Global;
 use std::sync::Arc;
 
-/// A row with these members.
+// A row with these members.
 fn row_of(alloc: Global, members: &[bool]) -> Result<Row, Memory>
     requires { length members.now < 2 ^ 32 }
     ensures { IfOk result (λ row. row ≡ members.now) }
@@ -23,7 +23,7 @@ fn row_of(alloc: Global, members: &[bool]) -> Result<Row, Memory>
     Ok(row)
 }
 
-/// Star rows of these modules.
+// Star rows of these modules.
 fn table(alloc: Global, modules: &[[bool; 4]]) -> Result<Rows, Memory>
     requires { length modules.now < 2 ^ 32 }
     ensures { IfOk result (λ rows. rows ≡ tables_of modules.now) }
@@ -36,7 +36,7 @@ fn table(alloc: Global, modules: &[[bool; 4]]) -> Result<Rows, Memory>
     Ok(rows)
 }
 
-/// Atoms and the covers between them.
+// Atoms and the covers between them.
 #[derive(Drop)]
 pub(crate) struct Found {
     pub(crate) atoms: Atoms,
@@ -44,7 +44,7 @@ pub(crate) struct Found {
     ghost same: { length covers.rows ≡ length atoms.firsts },
 }
 
-/// What is found for axioms with these star modules, listed in this order.
+// What is found for axioms with these star modules, listed in this order.
 pub(crate) fn find(alloc: Global, modules: &[[bool; 4]], order: &[u32]) -> Result<Found, Memory>
     requires modules { length modules.now < 2 ^ 32 }
     requires order { length order.now < 2 ^ 32 }
@@ -57,14 +57,14 @@ pub(crate) fn find(alloc: Global, modules: &[[bool; 4]], order: &[u32]) -> Resul
 }
 
 impl Found {
-    /// Whether the atom begins with this slot and has so many axioms.
+    // Whether the atom begins with this slot and has so many axioms.
     pub(crate) fn begins(&self, atom: u32, first: u32, size: u32) -> bool {
         atom < self.atoms.count()
             && self.atoms.first(atom) == first
             && self.atoms.size_of(atom) == size
     }
 
-    /// Whether these are the atoms of the four slots.
+    // Whether these are the atoms of the four slots.
     pub(crate) fn stand_in(&self, places: [Option<u32>; 4]) -> bool {
         self.atoms.atom_of(0) == places[0]
             && self.atoms.atom_of(1) == places[1]
@@ -72,7 +72,7 @@ impl Found {
             && self.atoms.atom_of(3) == places[3]
     }
 
-    /// Whether the atom covers these others, and no more.
+    // Whether the atom covers these others, and no more.
     pub(crate) fn covers_just(&self, atom: u32, others: &[u32]) -> bool {
         if atom >= self.atoms.count() {
             return false;
@@ -82,7 +82,7 @@ impl Found {
             && others.iter().all(|j| *j < row.size() && row.has(*j))
     }
 
-    /// Whether no other atom depends on this one.
+    // Whether no other atom depends on this one.
     pub(crate) fn is_top(&self, atom: u32) -> bool {
         atom < self.atoms.count() && self.covers.is_top(atom)
     }

@@ -6,7 +6,7 @@ use ad_bits::Row;
 use ad_theory::{Tally, Universe, empty_row};
 use std::test::Fail;
 
-/// Slots 0 and 1 hold axioms. Each has one symbol, its own number, and is local where that isn't seen.
+// Slots 0 and 1 hold axioms. Each has one symbol, its own number, and is local where that isn't seen.
 #[derive(Drop)]
 pub(crate) struct Loose {
     numbers: [u32; 2],
@@ -74,7 +74,7 @@ impl Universe for Loose {
     }
 }
 
-/// A test of locality through the bound.
+// A test of locality through the bound.
 fn is_local<U: Universe>(universe: &U, i: u32, seen: &Row, tally: &mut Tally) -> bool
     requires slot { i < U.slot_count universe.now }
     requires row { length seen.now ≡ U.symbol_count universe.now }

@@ -8,7 +8,7 @@ use std::alloc::Global;
 use std::sync::Arc;
 use std::test::Fail;
 
-/// A row of three with this member.
+// A row of three with this member.
 fn row_with(alloc: Global, member: u32) -> Result<Row, Memory> {
     let mut row = empty_row(alloc, 3)?;
     if member < 3 {
@@ -17,7 +17,7 @@ fn row_with(alloc: Global, member: u32) -> Result<Row, Memory> {
     Ok(row)
 }
 
-/// Three slots: the first has the row for star, and the second the same row for top.
+// Three slots: the first has the row for star, and the second the same row for top.
 fn shared(alloc: Global, row: Row) -> Result<Rows, Memory> {
     let row = Arc::new(alloc, row)?;
     let mut rows = Rows::new(alloc, 3)?;
@@ -26,7 +26,7 @@ fn shared(alloc: Global, row: Row) -> Result<Rows, Memory> {
     Ok(rows)
 }
 
-/// The first member of a row, where there is a row that has one.
+// The first member of a row, where there is a row that has one.
 fn first_of(row: Option<&Row>) -> Option<u32> {
     row?.next(0)
 }
@@ -49,7 +49,7 @@ fn rows_of_slots(rt: HostRuntime) -> Result<(), Fail> {
     Ok(())
 }
 
-/// The results of two tasks: rows with these members.
+// The results of two tasks: rows with these members.
 fn results_with(alloc: Global, first: u32, second: u32) -> Result<Results, Memory>
     ensures { IfOk result (λ results. length results ≡ 2) }
 {

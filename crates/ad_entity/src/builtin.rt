@@ -22,7 +22,7 @@ fn is_one_of_two(top: &str, bottom: &str, iri: &Word) -> bool
     iri.as_str() == top || iri.as_str() == bottom
 }
 
-/// Whether a name is built in where one of this kind stands. It takes no memory.
+// Whether a name is built in where one of this kind stands. It takes no memory.
 pub(crate) fn is_builtin_name(kind: EntityKind, name: &Word) -> bool
     ensures { result ≡ is_builtin_name kind name.now }
 {

@@ -16,9 +16,9 @@ use std::hash::RandomState;
 use std::test::Fail;
 use std::thread::Threads;
 
-/// Ontologies, how many modules are extracted for their genuine modules, three for each signature, and the genuine
-/// modules on the bottom side, on the top side and of both: for each axiom in order, 1 for each axiom in its module
-/// and 0 for each other.
+// Ontologies, how many modules are extracted for their genuine modules, three for each signature, and the genuine
+// modules on the bottom side, on the top side and of both: for each axiom in order, 1 for each axiom in its module
+// and 0 for each other.
 #[rattlefmt::skip]
 static GENUINE: [(&str, u64, [&str; 3]); 7] = [
     ("Ontology()", 0, ["", "", ""]),
@@ -35,7 +35,7 @@ static GENUINE: [(&str, u64, [&str; 3]); 7] = [
     ("Ontology(SubClassOf(owl:Nothing owl:Thing) DisjointClasses(<u:A> <u:B>))", 6, ["00 01 ", "01 01 ", "00 01 "]),
 ];
 
-/// The genuine modules of all axioms, and how many modules were extracted for them.
+// The genuine modules of all axioms, and how many modules were extracted for them.
 fn found(
     rt: &(impl Threads + Sync),
     alloc: Global,
@@ -49,7 +49,7 @@ fn found(
     Ok((rows, tally.runs()))
 }
 
-/// Writes for each slot below the count 1 where it is a member, and else 0.
+// Writes for each slot below the count 1 where it is a member, and else 0.
 fn write_members(line: &mut String, row: &Row, count: u32) -> Result<(), AllocError> {
     for slot in 0..count {
         let is_member = slot < row.size() && row.has(slot);
@@ -58,7 +58,7 @@ fn write_members(line: &mut String, row: &Row, count: u32) -> Result<(), AllocEr
     line.push_str(" ")
 }
 
-/// The genuine modules of one kind.
+// The genuine modules of one kind.
 fn line_of(alloc: Global, rows: &Rows, kind: Kind, count: u32) -> Result<String, AllocError> {
     let mut line = String::new(alloc);
     for slot in 0..count {
@@ -69,7 +69,7 @@ fn line_of(alloc: Global, rows: &Rows, kind: Kind, count: u32) -> Result<String,
     Ok(line)
 }
 
-/// Whether the genuine modules of each kind are these.
+// Whether the genuine modules of each kind are these.
 fn are(alloc: Global, rows: &Rows, count: u32, expected: &[&str; 3]) -> Result<bool, AllocError> {
     let bottom = line_of(alloc, rows, Kind::Bottom, count)?.as_str() == expected[0];
     let top = line_of(alloc, rows, Kind::Top, count)?.as_str() == expected[1];
@@ -77,7 +77,7 @@ fn are(alloc: Global, rows: &Rows, count: u32, expected: &[&str; 3]) -> Result<b
     Ok(bottom && top && star)
 }
 
-/// Whether the ontology has these genuine modules, and so many modules were extracted for them.
+// Whether the ontology has these genuine modules, and so many modules were extracted for them.
 fn holds(
     rt: &(impl Threads + Sync),
     alloc: Global,

@@ -10,7 +10,7 @@ use std::alloc::Global;
 use std::hash::RandomState;
 use std::test::Fail;
 
-/// How many axioms and entities there may be.
+// How many axioms and entities there may be.
 pub(crate) const MOST: u32 = 8;
 
 pub(crate) fn limits() -> Limits
@@ -24,7 +24,7 @@ pub(crate) fn limits() -> Limits
     limits
 }
 
-/// Puts an axiom into the least free slot, where there is one.
+// Puts an axiom into the least free slot, where there is one.
 fn put(
     alloc: Global,
     universe: &mut FlatUniverse,
@@ -45,7 +45,7 @@ fn put(
     Ok(())
 }
 
-/// The axioms of additions, each with its place in the list as its number.
+// The axioms of additions, each with its place in the list as its number.
 pub(crate) fn universe_of(
     alloc: Global,
     keys: RandomState,

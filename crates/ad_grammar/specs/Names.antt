@@ -16,7 +16,7 @@ use Rattle.ad_tree.specs.declared.notes.Subject.TheVariants as subjects
 use Rattle.ad_tree.specs.declared.notes.Value.{Value}
 use Rattle.ad_tree.specs.declared.notes.Value.TheVariants as values
 use Rattle.ad_entity.specs.declared.entities.Entity.{Entity}
-use Rattle.ad_write.specs.Canonical.{kind_word}
+use Rattle.ad_write.specs.Canonical.{entity_kind_word}
 use Rattle.ad_grammar.specs.Shapes.{Text, Then, Compound}
 
 -- the prefixes in force, each with the IRI that it stands for
@@ -74,4 +74,4 @@ SpellsValue words (values.Literal literal) ts = SpellsLiteral words literal ts
 
 -- the keyword of the entity's kind, and its IRI between parentheses
 abbrev pub SpellsEntity : Words → Entity → Text → Type 0
-SpellsEntity words e ts = Compound (kind_word e.kind) (IsName words e.name) ts
+SpellsEntity words e ts = Compound (entity_kind_word e.kind) (IsName words e.name) ts

@@ -7,7 +7,7 @@ use Rattle.std.proofs.lemmas.Bool.{true≢false}
 use Rattle.ad_lex.specs.Lexemes.{Lexeme}
 use Rattle.ad_lex.specs.Lexemes as says
 use Rattle.ad_write.specs.Keywords as kw
-use Rattle.ad_write.specs.Canonical.{kind_word}
+use Rattle.ad_write.specs.Canonical.{entity_kind_word}
 use Rattle.ad_tree.specs.Logical.{is_logical}
 use Rattle.ad_tree.specs.declared.names.ObjProp.{ObjProp}
 use Rattle.ad_tree.specs.declared.names.ObjProp.TheVariants as props
@@ -259,7 +259,7 @@ m_value (values.Anonymous label) = m_as values.Anonymous anonymous SpellsValue (
 m_value (values.Literal literal) = m_as values.Literal SpellsLiteral SpellsValue (λ words p. refl) literal (m_literal literal)
 
 pub m_entity : (x : Entity) → Moves SpellsEntity x
-m_entity x = m_as (λ name. entity_of x.kind name) (compound (kind_word x.kind) IsName) SpellsEntity (λ words p. refl) x.name (m_compound (kind_word x.kind) IsName x.name (m_name x.name))
+m_entity x = m_as (λ name. entity_of x.kind name) (compound (entity_kind_word x.kind) IsName) SpellsEntity (λ words p. refl) x.name (m_compound (entity_kind_word x.kind) IsName x.name (m_name x.name))
 
 -- no further property stands before the filler
 m_filler : (x : Range) → Moves SpellsRange x → Moves filler x

@@ -23,7 +23,7 @@ pub enum Front {
     OpenIri,
 }
 
-/// What stands at the front of the rest of the text from this place on.
+// What stands at the front of the rest of the text from this place on.
 #[tactic(auto, unfolding(crate::specs::Fronts::front))]
 pub(crate) fn front_at(text: &[u8], at: usize) -> Front
     requires { at ≤ length text.now }
@@ -50,7 +50,7 @@ pub(crate) fn front_at(text: &[u8], at: usize) -> Front
     }
 }
 
-/// The two carets, behind the first.
+// The two carets, behind the first.
 fn carets(text: &[u8], from: usize) -> Front
     ensures { result ≡ carets (drop from text.now) }
 {
@@ -61,7 +61,7 @@ fn carets(text: &[u8], from: usize) -> Front
     }
 }
 
-/// An IRI, behind its `<`.
+// An IRI, behind its `<`.
 fn iri(text: &[u8], from: usize) -> Front
     requires { from ≤ length text.now }
     ensures { result ≡ iri (drop from text.now) }
@@ -74,7 +74,7 @@ fn iri(text: &[u8], from: usize) -> Front
     }
 }
 
-/// A string, behind its first quote.
+// A string, behind its first quote.
 fn string(text: &[u8], from: usize) -> Front
     requires { from ≤ length text.now }
     ensures { result ≡ string (drop from text.now) }
@@ -92,7 +92,7 @@ fn string(text: &[u8], from: usize) -> Front
     Front::OpenString
 }
 
-/// A language tag, behind its `@`.
+// A language tag, behind its `@`.
 fn lang(text: &[u8], from: usize) -> Front
     requires { from ≤ length text.now }
     ensures { result ≡ lang (drop from text.now) }
@@ -105,7 +105,7 @@ fn lang(text: &[u8], from: usize) -> Front
     }
 }
 
-/// A word.
+// A word.
 fn word(text: &[u8], from: usize) -> Front
     requires { from ≤ length text.now }
     ensures { result ≡ word (drop from text.now) }
@@ -114,7 +114,7 @@ fn word(text: &[u8], from: usize) -> Front
     Front::Takes(word_mark(&text[from..from + len]), len)
 }
 
-/// The mark of a word: its first colon splits it into prefix and local part.
+// The mark of a word: its first colon splits it into prefix and local part.
 fn word_mark(word: &[u8]) -> Mark
     ensures { result ≡ word_mark word.now }
 {
@@ -130,7 +130,7 @@ fn word_mark(word: &[u8]) -> Mark
     }
 }
 
-/// Where the first colon of a word stands.
+// Where the first colon of a word stands.
 pub(crate) fn colon_in(word: &[u8]) -> Option<usize>
     ensures value { result ≡ position is_colon word.now }
     ensures within { IfSome result (λ colon. colon < length word.now) }
@@ -138,7 +138,7 @@ pub(crate) fn colon_in(word: &[u8]) -> Option<usize>
     word.iter().position(|byte| *byte == b':')
 }
 
-/// How many bytes of word characters stand here.
+// How many bytes of word characters stand here.
 fn word_len(text: &[u8], from: usize) -> usize
     requires { from ≤ length text.now }
     ensures value { result ≡ prefix_len is_word (drop from text.now) }
@@ -151,7 +151,7 @@ fn word_len(text: &[u8], from: usize) -> usize
     at - from
 }
 
-/// How many bytes stand here of characters that may stand between `<` and `>`.
+// How many bytes stand here of characters that may stand between `<` and `>`.
 fn iri_len(text: &[u8], from: usize) -> usize
     requires { from ≤ length text.now }
     ensures value { result ≡ prefix_len is_iri (drop from text.now) }
@@ -164,7 +164,7 @@ fn iri_len(text: &[u8], from: usize) -> usize
     at - from
 }
 
-/// How many bytes of a comment stand here, behind its `#`.
+// How many bytes of a comment stand here, behind its `#`.
 fn comment_len(text: &[u8], from: usize) -> usize
     requires { from ≤ length text.now }
     ensures value { result ≡ prefix_len goes_on (drop from text.now) }

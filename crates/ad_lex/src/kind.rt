@@ -20,7 +20,7 @@ pub enum CharKind {
     Other,
 }
 
-/// The kind of a character, by its first byte: all kinds but `Other` are of ASCII characters.
+// The kind of a character, by its first byte: all kinds but `Other` are of ASCII characters.
 #[tactic(auto, unfolding(crate::specs::Characters::kind_of))]
 pub(crate) fn kind_of(byte: u8) -> CharKind
     ensures { result ≡ kind_of byte }
@@ -42,7 +42,7 @@ pub(crate) fn kind_of(byte: u8) -> CharKind
     }
 }
 
-/// Whether the byte is one of a word character.
+// Whether the byte is one of a word character.
 pub(crate) fn is_word(byte: u8) -> bool
     ensures { result ≡ is_word byte }
 {
@@ -52,7 +52,7 @@ pub(crate) fn is_word(byte: u8) -> bool
     }
 }
 
-/// Whether the byte may stand between `<` and `>`.
+// Whether the byte may stand between `<` and `>`.
 pub(crate) fn is_iri(byte: u8) -> bool
     ensures { result ≡ is_iri byte }
 {

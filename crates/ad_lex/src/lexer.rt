@@ -25,7 +25,7 @@ pub fn tokens(alloc: Global, text: &[u8]) -> Result<Tokens, LexRefused>
     lex_rest(alloc, text, start(text)).map(Tokens::of)
 }
 
-/// The tokens of the rest of the text from this place on, or the first fault in it.
+// The tokens of the rest of the text from this place on, or the first fault in it.
 fn lex_rest(alloc: Global, text: &[u8], from: usize) -> Result<Vec<Token>, LexRefused>
     requires within { from ≤ length text.now }
     requires short { length text.now < 2 ^ 32 }
@@ -56,7 +56,7 @@ fn lex_rest(alloc: Global, text: &[u8], from: usize) -> Result<Vec<Token>, LexRe
     }
 }
 
-/// Whether the text is UTF-8: else it has the fault that comes before all others.
+// Whether the text is UTF-8: else it has the fault that comes before all others.
 fn check_utf8(text: &[u8]) -> Result<(), LexFault>
     requires { length text.now < 2 ^ 32 }
     ensures ok { OnOk result (IsUtf8 text.now) }
@@ -71,7 +71,7 @@ fn check_utf8(text: &[u8]) -> Result<(), LexFault>
     }
 }
 
-/// Where the first character stands that isn't a byte order mark at the start.
+// Where the first character stands that isn't a byte order mark at the start.
 fn start(text: &[u8]) -> usize
     ensures value { result ≡ start text.now }
     ensures within { result ≤ length text.now }

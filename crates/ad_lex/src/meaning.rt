@@ -10,7 +10,7 @@ use ad_base::{Memory, Word};
 use std::alloc::Global;
 use std::str;
 
-/// What the tokens of a text say.
+// What the tokens of a text say.
 impl Token {
     /// The bytes of the token.
     pub fn bytes<'a>(self, text: &'a [u8]) -> &'a [u8]
@@ -86,7 +86,7 @@ impl Token {
     }
 }
 
-/// The value of what stands between the quotes of a string, as a word.
+// The value of what stands between the quotes of a string, as a word.
 fn string_word(alloc: Global, inside: &[u8]) -> Result<Word, Memory>
     requires { IsUtf8 inside.now }
     ensures { IfOk result (λ value. value ≡ string_value inside.now) }
@@ -99,7 +99,7 @@ fn string_word(alloc: Global, inside: &[u8]) -> Result<Word, Memory>
     }
 }
 
-/// Text from bytes that are text.
+// Text from bytes that are text.
 fn as_text(bytes: &[u8]) -> &str
     requires { IsUtf8 bytes.now }
     ensures { result.now ≡ bytes.now }
@@ -110,7 +110,7 @@ fn as_text(bytes: &[u8]) -> &str
     }
 }
 
-/// The value of what stands between the quotes of a string.
+// The value of what stands between the quotes of a string.
 fn unescape(alloc: Global, inside: &[u8]) -> Result<Vec<u8>, Memory>
     ensures { IfOk result (λ value. value.items ≡ string_value inside.now) }
 {

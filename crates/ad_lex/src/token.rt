@@ -61,7 +61,7 @@ impl Tokens {
         self.items.as_slice()
     }
 
-    /// These tokens as a whole.
+    // These tokens as a whole.
     pub(crate) fn of(items: Vec<Token>) -> Tokens
         requires { vec_len items < 2 ^ 32 }
         ensures { result ≡ items.items }

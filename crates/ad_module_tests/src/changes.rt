@@ -8,7 +8,7 @@ use std::alloc::Global;
 use std::hash::RandomState;
 use std::test::Fail;
 
-/// Twelve axioms.
+// Twelve axioms.
 const AXIOMS: &str = "Ontology(
 SubClassOf(<u:A> <u:B>)
 SubClassOf(<u:B> <u:C>)
@@ -23,22 +23,22 @@ ObjectPropertyAssertion(<u:s> <u:i> <u:j>)
 DataPropertyRange(<u:p> <u:d>)
 SubClassOf(DataSomeValuesFrom(<u:p> <u:d>) <u:F>))";
 
-/// Changes, one after another: each letter inserts the axiom with its place in the alphabet, or removes it where it is
-/// there. At the end eight axioms are there, and no slot below theirs is free.
+// Changes, one after another: each letter inserts the axiom with its place in the alphabet, or removes it where it is
+// there. At the end eight axioms are there, and no slot below theirs is free.
 #[rattlefmt::skip]
 const CHANGES: &str = "jelfllkiahdkacbfhdgibjdaldgecgcbcjjhccaaddccefdikkdcldgeafgccebfejjajklfbefehlfchhlcaealfgaigfgjahalcjdbdhfifiehbjlfeagbdfijfcfelibekfecbkcllehclabjigadljfehkgcakahfdcljckgbcgfcagechjcihhllfheehgcbgic";
 
-/// Where each of twelve axioms is.
+// Where each of twelve axioms is.
 type Places = [Option<u32>; 12];
 
-/// No axioms, and numbers for the entities of these.
+// No axioms, and numbers for the entities of these.
 fn named(alloc: Global, keys: RandomState, axioms: &[Op]) -> Result<Numbered, Fail> {
     let mut numbered = with_numbers(alloc, keys, axioms)?;
     numbered.clear(alloc)?;
     Ok(numbered)
 }
 
-/// Inserts an axiom, or removes it where it is there, and says where it is then.
+// Inserts an axiom, or removes it where it is there, and says where it is then.
 fn change(
     alloc: Global,
     numbered: &mut Numbered,
@@ -52,7 +52,7 @@ fn change(
     Ok(None)
 }
 
-/// Makes the changes, and says where the axioms are then.
+// Makes the changes, and says where the axioms are then.
 fn change_all(alloc: Global, numbered: &mut Numbered, axioms: &[Op]) -> Result<Places, Fail> {
     let mut places = [None; 12];
     for letter in CHANGES.as_bytes() {
@@ -65,7 +65,7 @@ fn change_all(alloc: Global, numbered: &mut Numbered, axioms: &[Op]) -> Result<P
     Ok(places)
 }
 
-/// Inserts the axiom that is in this place, where there is one.
+// Inserts the axiom that is in this place, where there is one.
 fn insert_from(
     alloc: Global,
     numbered: &mut Numbered,
@@ -81,7 +81,7 @@ fn insert_from(
     Ok(())
 }
 
-/// The axioms in their places, in a universe that is built anew.
+// The axioms in their places, in a universe that is built anew.
 fn anew(
     alloc: Global,
     keys: RandomState,
@@ -95,7 +95,7 @@ fn anew(
     Ok(numbered)
 }
 
-/// Whether both give the same module of this kind.
+// Whether both give the same module of this kind.
 fn have_module(
     alloc: Global,
     one: &Numbered,
@@ -107,7 +107,7 @@ fn have_module(
     Ok(module.same(&other.module(alloc, kind, seed)?))
 }
 
-/// Whether both give the same modules of each kind.
+// Whether both give the same modules of each kind.
 fn have_modules(
     alloc: Global,
     one: &Numbered,
@@ -121,7 +121,7 @@ fn have_modules(
     )
 }
 
-/// Whether both give the same modules for the signature of each axiom.
+// Whether both give the same modules for the signature of each axiom.
 fn agree(alloc: Global, one: &Numbered, other: &Numbered, axioms: &[Op]) -> Result<bool, Memory> {
     for axiom in axioms {
         let seed = signature(alloc, &axiom.noted)?;
@@ -132,14 +132,14 @@ fn agree(alloc: Global, one: &Numbered, other: &Numbered, axioms: &[Op]) -> Resu
     Ok(true)
 }
 
-/// The universe after the changes, and where its axioms are.
+// The universe after the changes, and where its axioms are.
 fn changed(alloc: Global, keys: RandomState, axioms: &[Op]) -> Result<(Numbered, Places), Fail> {
     let mut numbered = named(alloc, keys, axioms)?;
     let places = change_all(alloc, &mut numbered, axioms)?;
     Ok((numbered, places))
 }
 
-/// Whether all is as in a universe that is built anew with the axioms in these places.
+// Whether all is as in a universe that is built anew with the axioms in these places.
 fn is_as_anew(
     alloc: Global,
     keys: RandomState,
@@ -151,7 +151,7 @@ fn is_as_anew(
     Ok(numbered.is_alike(&anew) && agree(alloc, numbered, &anew, axioms)?)
 }
 
-/// Whether after the changes all is as in a universe that is built anew.
+// Whether after the changes all is as in a universe that is built anew.
 fn changed_is_as_anew(alloc: Global, keys: RandomState, axioms: &[Op]) -> Result<bool, Fail> {
     let (numbered, places) = changed(alloc, keys, axioms)?;
     is_as_anew(alloc, keys, axioms, &numbered, &places)

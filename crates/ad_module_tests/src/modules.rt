@@ -12,7 +12,7 @@ use std::alloc::{AllocError, Global};
 use std::hash::RandomState;
 use std::test::Fail;
 
-/// A document as tools write it.
+// A document as tools write it.
 const ZOO: &str = "Prefix(:=<http://ex.org/a#>)
 Prefix(owl:=<http://www.w3.org/2002/07/owl#>)
 Prefix(rdf:=<http://www.w3.org/1999/02/22-rdf-syntax-ns#>)
@@ -35,18 +35,18 @@ HasKey(:Tag () (:code))
 )
 ";
 
-/// An axiom that isn't local for its own name, and four that are local for any names.
+// An axiom that isn't local for its own name, and four that are local for any names.
 const LOCAL: &str =
     "Ontology(DisjointClasses(<u:A> <u:A>) EquivalentClasses(<u:A>) SubClassOf(ObjectMaxCardinality(0 owl:topObjectProperty owl:Thing) <u:B>) SubClassOf(owl:Thing ObjectExactCardinality(0 owl:bottomObjectProperty)) SubClassOf(<u:C> ObjectMinCardinality(0 <u:r>)))";
 
-/// Data: values of a datatype below a class, a datatype that is defined, and an assertion.
+// Data: values of a datatype below a class, a datatype that is defined, and an assertion.
 const DATA: &str =
     "Ontology(SubClassOf(DataSomeValuesFrom(<u:p> <u:d>) <u:A>) DatatypeDefinition(<u:d> xsd:integer) DataPropertyAssertion(<u:q> <u:i> \"1\"))";
 
 const ONE: &str = "Class(<u:A>)";
 
-/// Documents with seeds, and for each logical axiom in order 1 where it is in the bottom module, the top module and the
-/// star module, and 0 where it isn't.
+// Documents with seeds, and for each logical axiom in order 1 where it is in the bottom module, the top module and the
+// star module, and 0 where it isn't.
 #[rattlefmt::skip]
 static MODULES: [(&str, &str, &str, &str, &str); 12] = [
     // the first is above the seed and the second below it, so neither is in both modules
@@ -79,7 +79,7 @@ fn document(alloc: Global, text: &str) -> Result<Batch, Fail> {
     Ok(read_document(alloc, text.as_bytes(), &Limits::standard())?)
 }
 
-/// Puts a copy of an operation at the end.
+// Puts a copy of an operation at the end.
 fn put(alloc: Global, axioms: &mut Batch, op: &Op) -> Result<(), Fail>
     requires { length axioms.old < MOST }
     ensures { OnOk result (length axioms.new ≤ MOST) }
@@ -88,7 +88,7 @@ fn put(alloc: Global, axioms: &mut Batch, op: &Op) -> Result<(), Fail>
     Ok(())
 }
 
-/// The logical axioms of a document, which are no more than there may be.
+// The logical axioms of a document, which are no more than there may be.
 pub(crate) fn logical(alloc: Global, text: &str) -> Result<Batch, Fail>
     ensures { IfOk result (λ axioms. length axioms ≤ MOST) }
 {
@@ -112,8 +112,8 @@ fn seed_of(alloc: Global, text: &str) -> Result<Seed, Fail> {
     Ok(read_seed(alloc, text.as_bytes(), &Limits::standard())?)
 }
 
-/// The star module by plain sweeps: the bottom module, the top module of it, and so on. Each round but the last one takes
-/// an axiom away.
+// The star module by plain sweeps: the bottom module, the top module of it, and so on. Each round but the last one takes
+// an axiom away.
 fn alternated(alloc: Global, axioms: &Batch, seed: &Seed) -> Result<Batch, Memory> {
     let mut found = sweep(alloc, Side::Bottom, axioms, seed)?;
     for _ in axioms.ops() {
@@ -123,7 +123,7 @@ fn alternated(alloc: Global, axioms: &Batch, seed: &Seed) -> Result<Batch, Memor
     Ok(found)
 }
 
-/// The module by plain sweeps.
+// The module by plain sweeps.
 fn swept(alloc: Global, kind: Kind, axioms: &Batch, seed: &Seed) -> Result<Batch, Memory> {
     match kind {
         Kind::Bottom => sweep(alloc, Side::Bottom, axioms, seed),
@@ -132,7 +132,7 @@ fn swept(alloc: Global, kind: Kind, axioms: &Batch, seed: &Seed) -> Result<Batch
     }
 }
 
-/// Whether the first of these operations is on the same axiom as another one.
+// Whether the first of these operations is on the same axiom as another one.
 fn is_first(ops: &[Op], other: &Op) -> bool
     ensures { IsTrue result → 1 ≤ length ops.now }
 {
@@ -142,7 +142,7 @@ fn is_first(ops: &[Op], other: &Op) -> bool
     }
 }
 
-/// For each axiom 1 where it is the next one found, and else 0, and at the end a plus sign where more are found.
+// For each axiom 1 where it is the next one found, and else 0, and at the end a plus sign where more are found.
 fn marks_of_axioms(alloc: Global, axioms: &[Op], found: &[Op]) -> Result<String, AllocError> {
     let mut marks = String::new(alloc);
     let mut rest = found;
@@ -160,7 +160,7 @@ fn marks_of_axioms(alloc: Global, axioms: &[Op], found: &[Op]) -> Result<String,
     Ok(marks)
 }
 
-/// For each of the first slots 1 where it is in the row, and else 0, and at the end a plus sign where another one is.
+// For each of the first slots 1 where it is in the row, and else 0, and at the end a plus sign where another one is.
 fn marks_of_slots(alloc: Global, count: u32, row: &Row) -> Result<String, AllocError> {
     let mut marks = String::new(alloc);
     for slot in 0..count {
@@ -173,13 +173,13 @@ fn marks_of_slots(alloc: Global, count: u32, row: &Row) -> Result<String, AllocE
     Ok(marks)
 }
 
-/// The module by plain sweeps, in marks.
+// The module by plain sweeps, in marks.
 fn swept_marks(alloc: Global, kind: Kind, axioms: &Batch, seed: &Seed) -> Result<String, Fail> {
     let found = swept(alloc, kind, axioms, seed)?;
     Ok(marks_of_axioms(alloc, axioms.ops(), found.ops())?)
 }
 
-/// The module over the numbered axioms, in marks.
+// The module over the numbered axioms, in marks.
 fn numbered_marks(
     alloc: Global,
     keys: RandomState,
@@ -194,7 +194,7 @@ fn numbered_marks(
     Ok(marks_of_slots(alloc, axioms.len() as u32, &row)?)
 }
 
-/// The module of axioms for a seed, in marks: by sweeps and over the numbered axioms.
+// The module of axioms for a seed, in marks: by sweeps and over the numbered axioms.
 fn both(
     alloc: Global,
     keys: RandomState,
@@ -209,7 +209,7 @@ fn both(
     Ok((by_sweeps, by_numbers))
 }
 
-/// The same of a document and the text of a seed.
+// The same of a document and the text of a seed.
 fn both_of_texts(
     alloc: Global,
     keys: RandomState,
@@ -235,7 +235,7 @@ fn modules(rt: HostRuntime) -> Result<(), Fail> {
     Ok(())
 }
 
-/// Whether sweeps and the numbered axioms give the same modules of each kind for the signature of each axiom.
+// Whether sweeps and the numbered axioms give the same modules of each kind for the signature of each axiom.
 fn agree(alloc: Global, keys: RandomState, axioms: &Batch) -> Result<bool, Fail>
     requires { length axioms.now ≤ MOST }
 {
@@ -265,7 +265,7 @@ fn signatures(rt: HostRuntime) -> Result<(), Fail> {
     Ok(())
 }
 
-/// How many tests of locality the module of a side for the seed u:A takes.
+// How many tests of locality the module of a side for the seed u:A takes.
 fn tests_of(alloc: Global, keys: RandomState, side: Side, axioms: &[Op]) -> Result<u64, Fail>
     requires { length axioms.now ≤ MOST }
 {
@@ -274,7 +274,7 @@ fn tests_of(alloc: Global, keys: RandomState, side: Side, axioms: &[Op]) -> Resu
     Ok(numbered.by_queue(alloc, side, &seed)?.1)
 }
 
-/// The same of a document.
+// The same of a document.
 fn tests_of_text(alloc: Global, keys: RandomState, side: Side, text: &str) -> Result<u64, Fail> {
     let axioms = logical(alloc, text)?;
     tests_of(alloc, keys, side, axioms.ops())

@@ -14,7 +14,7 @@ use std::alloc::Global;
 use std::hash::RandomState;
 use std::test::Fail;
 
-/// How many axioms and entities there may be.
+// How many axioms and entities there may be.
 pub(crate) const MOST: u32 = 32;
 
 fn limits() -> Limits
@@ -28,7 +28,7 @@ fn limits() -> Limits
     limits
 }
 
-/// Axioms with numbers, and numbers for their entities.
+// Axioms with numbers, and numbers for their entities.
 #[derive(Drop)]
 pub(crate) struct Numbered {
     universe: FlatUniverse,
@@ -38,7 +38,7 @@ pub(crate) struct Numbered {
     ghost limit: { symbols.limit ≡ 32 },
 }
 
-/// The axioms of additions, each with its place in the list as its number.
+// The axioms of additions, each with its place in the list as its number.
 pub(crate) fn with_numbers(
     alloc: Global,
     keys: RandomState,
@@ -51,7 +51,7 @@ pub(crate) fn with_numbers(
     Ok(numbered)
 }
 
-/// The numbers of the entities of a seed that have one.
+// The numbers of the entities of a seed that have one.
 fn row_of(alloc: Global, symbols: &Symbols, seed: &Seed) -> Result<Row, Memory>
     ensures { IfOk result (λ row. length row ≡ MOST) }
 {
@@ -66,7 +66,7 @@ fn row_of(alloc: Global, symbols: &Symbols, seed: &Seed) -> Result<Row, Memory>
     Ok(row)
 }
 
-/// All slots.
+// All slots.
 fn all_slots(alloc: Global) -> Result<Row, Memory>
     ensures { IfOk result (λ row. length row ≡ MOST) }
 {
@@ -78,14 +78,14 @@ fn all_slots(alloc: Global) -> Result<Row, Memory>
 }
 
 impl Numbered {
-    /// No axioms.
+    // No axioms.
     pub(crate) fn empty(alloc: Global, keys: RandomState) -> Result<Numbered, Fail> {
         let symbols = Symbols::new(alloc, keys, MOST)?;
         let universe = FlatUniverse::empty(alloc, &limits())?;
         Ok(Numbered { universe, symbols })
     }
 
-    /// Gives an axiom the least free number, where there is one.
+    // Gives an axiom the least free number, where there is one.
     pub(crate) fn insert(&mut self, alloc: Global, noted: &Noted) -> Result<u32, Fail> {
         if self.universe.next() >= MOST as usize {
             Err("many axioms")?;
@@ -93,20 +93,20 @@ impl Numbered {
         Ok(add(alloc, &mut self.universe, &mut self.symbols, noted)?)
     }
 
-    /// Removes the axiom with this number, where there is one.
+    // Removes the axiom with this number, where there is one.
     pub(crate) fn remove(&mut self, slot: u32) {
         if slot < MOST && self.universe.live(slot) {
             self.universe.remove(slot);
         }
     }
 
-    /// Begins again without axioms. Entities keep their numbers.
+    // Begins again without axioms. Entities keep their numbers.
     pub(crate) fn clear(&mut self, alloc: Global) -> Result<(), Memory> {
         self.universe = FlatUniverse::empty(alloc, &limits())?;
         Ok(())
     }
 
-    /// Whether this slot holds the same symbols in both, and this symbol stands in the same slots.
+    // Whether this slot holds the same symbols in both, and this symbol stands in the same slots.
     fn is_alike_at(&self, other: &Numbered, i: u32) -> bool
         requires { i < MOST }
     {
@@ -115,7 +115,7 @@ impl Numbered {
             && self.universe.occurs(i) == other.universe.occurs(i)
     }
 
-    /// Whether both hold the same symbols in the same slots, of which the same are global.
+    // Whether both hold the same symbols in the same slots, of which the same are global.
     pub(crate) fn is_alike(&self, other: &Numbered) -> bool {
         for i in 0..MOST {
             if !self.is_alike_at(other, i) {
@@ -126,7 +126,7 @@ impl Numbered {
             && self.universe.global(Side::Top) == other.universe.global(Side::Top)
     }
 
-    /// The slots of the module of a side, by the queue, and how many tests of locality it took.
+    // The slots of the module of a side, by the queue, and how many tests of locality it took.
     pub(crate) fn by_queue(
         &self,
         alloc: Global,
@@ -153,7 +153,7 @@ impl Numbered {
         Ok((out, tally.tests()))
     }
 
-    /// The slots of the module of a kind: by the queue on one side, and by alternation on both.
+    // The slots of the module of a kind: by the queue on one side, and by alternation on both.
     pub(crate) fn module(&self, alloc: Global, kind: Kind, seed: &Seed) -> Result<Row, Memory>
         ensures { IfOk result (λ found. length found ≡ MOST) }
     {
@@ -164,7 +164,7 @@ impl Numbered {
         }
     }
 
-    /// The slots of the star module, by alternation of the queue.
+    // The slots of the star module, by alternation of the queue.
     fn by_alternation(&self, alloc: Global, seed: &Seed) -> Result<Row, Memory>
         ensures { IfOk result (λ found. length found ≡ MOST) }
     {

@@ -31,7 +31,7 @@ impl From<Memory> for PrefixRefused {
     }
 }
 
-/// Six tokens that may be a declaration.
+// Six tokens that may be a declaration.
 #[derive(Clone, Copy)]
 struct Phrase {
     word: Token,
@@ -43,7 +43,7 @@ struct Phrase {
 }
 
 impl Phrase {
-    /// The prefix that the tokens declare, and its IRI, if they are a declaration.
+    // The prefix that the tokens declare, and its IRI, if they are a declaration.
     fn declares<'a>(self, text: &'a [u8]) -> Option<(&'a str, &'a str)>
         requires { AreTokensOfPhrase text.now self }
         ensures { option_map (λ found. declared (found.0.now, found.1.now)) result ≡ declares text.now self }
@@ -75,7 +75,7 @@ impl Phrase {
     }
 }
 
-/// The declaration that stands here, if one does: the token of its prefix, the prefix and the IRI.
+// The declaration that stands here, if one does: the token of its prefix, the prefix and the IRI.
 fn declaration_at<'a>(
     text: &'a [u8],
     tokens: &[Token],

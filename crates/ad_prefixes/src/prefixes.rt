@@ -26,7 +26,7 @@ impl Model for Prefixes {
     ghost view = { λ prefixes. map (λ entry. (string_bytes entry.0, entry.1)) prefixes.declared.entries };
 }
 
-/// The IRIs of the standard prefixes.
+// The IRIs of the standard prefixes.
 #[derive(Drop)]
 struct Standard {
     owl: Word,
@@ -98,7 +98,7 @@ impl Standard {
         })
     }
 
-    /// The IRI of a standard prefix.
+    // The IRI of a standard prefix.
     fn get(&self, prefix: &str) -> Option<&Word>
         ensures { option_copied result ≡ iri_of texts.standard prefix.now }
     {
@@ -116,7 +116,7 @@ impl Standard {
     }
 }
 
-/// An IRI with a local part behind it.
+// An IRI with a local part behind it.
 fn joined(alloc: Global, iri: &str, local: &str) -> Result<Word, Memory>
     ensures { IfOk result (λ name. name ≡ iri.now ++ local.now) }
 {

@@ -27,7 +27,7 @@ pub fn first_unknown(text: &[u8], tokens: &[Token], from: usize, prefixes: &Pref
     None
 }
 
-/// Whether a token is a name whose prefix isn't known.
+// Whether a token is a name whose prefix isn't known.
 fn is_unknown(text: &[u8], token: Token, prefixes: &Prefixes) -> bool
     requires { IsTokenOf text.now token }
     ensures { result ≡ is_unknown (in_force (declarations prefixes.now)) (lexeme text.now token) }

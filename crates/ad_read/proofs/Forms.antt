@@ -7,7 +7,7 @@ use Rattle.ad_lex.proofs.Pieces.{bytes_eq-refl}
 use Rattle.ad_lex.specs.Lexemes.{Lexeme}
 use Rattle.ad_lex.specs.Lexemes as says
 use Rattle.ad_write.specs.Keywords as kw
-use Rattle.ad_write.specs.Canonical.{kind_word}
+use Rattle.ad_write.specs.Canonical.{entity_kind_word}
 use Rattle.ad_tree.specs.Logical.{is_logical}
 use Rattle.ad_tree.specs.declared.axioms.Axiom.{Axiom}
 use Rattle.ad_tree.specs.declared.axioms.Axiom.TheVariants as axioms
@@ -57,7 +57,7 @@ over_more word inside h ts more (inner, e, s) = λ rest e'. other_word word h (a
 over_alone : (word : List ℕ) (inside : Text → Type 0) → bytes_eq word (codes "Prefix") ≡ false → (ts : Text) → Compound word inside ts → IsOver ts
 over_alone word inside h ts (inner, e, s) = λ rest e'. other_word word h (ap word_in (sym e ∙ e'))
 
-entity_word : (kind : EntityKind) → bytes_eq (kind_word kind) (codes "Prefix") ≡ false
+entity_word : (kind : EntityKind) → bytes_eq (entity_kind_word kind) (codes "Prefix") ≡ false
 entity_word kinds.Class = refl
 entity_word kinds.Datatype = refl
 entity_word kinds.ObjectProperty = refl
@@ -73,7 +73,7 @@ not_empty ts e = λ rest e'. nothing_plain (sym e ∙ e')
 
 over_entities : (words : Words) (entities : List Entity) (ts : Text) → Many0 (SpellsEntity words) entities ts → IsOver ts
 over_entities words [] ts e = not_empty ts e
-over_entities words (x ∷ entities) ts (a, b, e, s, ss) = λ rest e'. over_more (kind_word x.kind) (IsName words x.name) (entity_word x.kind) a b s rest (sym e ∙ e')
+over_entities words (x ∷ entities) ts (a, b, e, s, ss) = λ rest e'. over_more (entity_kind_word x.kind) (IsName words x.name) (entity_word x.kind) a b s rest (sym e ∙ e')
 
 sign_plain : (sign : Sign) (ts : Text) → is_plain (sign_of sign ∷ ts) ≡ false
 sign_plain signs.Add ts = refl

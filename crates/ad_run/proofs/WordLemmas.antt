@@ -22,7 +22,7 @@ use Rattle.ad_entity.specs.declared.entities.Entity.{Entity}
 use Rattle.ad_base.specs.Kinds as module_kinds
 use Rattle.ad_base.specs.Kinds.{kind_of}
 use Rattle.ad_run.specs.Command.{IsCommand, IsSeedEntity, of_module, seed_word, command_words, IsOffered}
-use Rattle.ad_write.specs.Canonical.{kind_word}
+use Rattle.ad_write.specs.Canonical.{entity_kind_word}
 use Rattle.ad_run.specs.Words.{front_of, is_iri_behind, first_kind, kind_in, is_seed_word, are_seed_words, side_in, module_side, script_alone, script_with}
 use Rattle.ad_run.specs.Runs.{IsNoModule, IsNoScript, IsSomeScript}
 use Rattle.ad_base.specs.Decimal.{IsNumber}
@@ -58,7 +58,7 @@ pub word_entity : (word : List ℕ) (k : EntityKind) → kind_in word ≡ Some k
     → IsSeedEntity (entity k (drop (length (front_of k)) word)) × (word ≡ seed_word (entity k (drop (length (front_of k)) word)))
 word_entity word k h =
     let found = split_word (front_of k) word (first_found all_kinds word k h) in
-    (found.0, found.1 ∙ append_assoc (kind_word k) (61 ∷ []) (drop (length (front_of k)) word))
+    (found.0, found.1 ∙ append_assoc (entity_kind_word k) (61 ∷ []) (drop (length (front_of k)) word))
 
 named : (k : EntityKind) (name : List ℕ) → list_all is_iri name ≡ true → is_seed_word (seed_word (entity k name)) ≡ true
 named kinds.Class name h = rw h refl

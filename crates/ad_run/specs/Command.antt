@@ -6,11 +6,11 @@ use Rattle.ad_base.specs.declared.limits.Kind.TheVariants as modules
 use Rattle.ad_base.specs.Kinds as module_kinds
 use Rattle.ad_lex.specs.Characters.{is_iri}
 use Rattle.ad_entity.specs.declared.entities.Entity.{Entity}
-use Rattle.ad_write.specs.Canonical.{kind_word}
+use Rattle.ad_write.specs.Canonical.{entity_kind_word}
 
 -- an entity as a word: its keyword, =, and its IRI
 abbrev pub seed_word : Entity → List ℕ
-seed_word e = kind_word e.kind ++ 61 ∷ e.name
+seed_word e = entity_kind_word e.kind ++ 61 ∷ e.name
 
 -- what the words of a command ask for
 pub data Command : Type 0 where

@@ -7,11 +7,11 @@ use Rattle.ad_base.specs.declared.limits.Side.TheVariants as sides
 use Rattle.ad_lex.specs.Characters.{is_iri}
 use Rattle.ad_entity.specs.declared.entities.EntityKind.{EntityKind}
 use Rattle.ad_entity.specs.Entities.{all_kinds}
-use Rattle.ad_write.specs.Canonical.{kind_word}
+use Rattle.ad_write.specs.Canonical.{entity_kind_word}
 
 -- what stands before the IRI in the word of an entity
 abbrev pub front_of : EntityKind → List ℕ
-front_of kind = kind_word kind ++ 61 ∷ []
+front_of kind = entity_kind_word kind ++ 61 ∷ []
 
 -- the front of a word, and then an IRI
 abbrev pub is_iri_behind : List ℕ → List ℕ → Bool

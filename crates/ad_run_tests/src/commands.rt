@@ -5,17 +5,17 @@ use ad_run::run_once;
 use std::alloc::Global;
 use std::test::Fail;
 
-/// Two axioms of which the first is in the bottom module for A.
+// Two axioms of which the first is in the bottom module for A.
 const PAIR: &str = "Ontology(SubClassOf(<u:A> <u:B>) SubClassOf(<u:C> <u:A>))";
 
 const MODULE_OF_PAIR: &str = "Ontology(\nSubClassOf(<u:A> <u:B>)\n)\n";
 
 const UNCLOSED: &str = "Ontology(SubClassOf(<u:A> <u:B>)";
 
-/// The number of a call that is never made.
+// The number of a call that is never made.
 const NEVER: u64 = 99;
 
-/// The words that ask for the bottom module for the class A.
+// The words that ask for the bottom module for the class A.
 fn words(alloc: Global) -> Result<Vec<Word>, Memory> {
     let mut words = Vec::new(alloc);
     for text in ["module", "bottom", "Class=u:A"] {
@@ -24,14 +24,14 @@ fn words(alloc: Global) -> Result<Vec<Word>, Memory> {
     Ok(words)
 }
 
-/// A source of the pair that fails at this call, and gives seven bytes at each other one.
+// A source of the pair that fails at this call, and gives seven bytes at each other one.
 fn source_of(alloc: Global, call: u64) -> Result<MemSource, Memory> {
     let text = Vec::from_slice(alloc, PAIR.as_bytes())?;
     Ok(MemSource::new(text, 7, vec![in alloc; call]?))
 }
 
-/// The status where the source fails at one call, and the sink, which takes five bytes at each other one, at one. The
-/// notes are kept.
+// The status where the source fails at one call, and the sink, which takes five bytes at each other one, at one. The
+// notes are kept.
 fn status_of(alloc: Global, read: u64, write: u64, notes: &mut SureSink) -> Result<u8, Memory> {
     let words = words(alloc)?;
     let mut source = source_of(alloc, read)?;
@@ -39,7 +39,7 @@ fn status_of(alloc: Global, read: u64, write: u64, notes: &mut SureSink) -> Resu
     Ok(run_once(alloc, words.as_slice(), &mut source, &mut sink, notes))
 }
 
-/// Whether this is the status and this the note.
+// Whether this is the status and this the note.
 fn ends_with(alloc: Global, calls: (u64, u64), status: u8, note: &str) -> Result<bool, Memory> {
     let mut notes = SureSink::new(alloc, 256)?;
     let found = status_of(alloc, calls.0, calls.1, &mut notes)?;
@@ -65,7 +65,7 @@ fn failing_sinks(rt: HostRuntime) -> Result<(), Fail> {
     Ok(())
 }
 
-/// The status of a command on a text, whose output and notes are kept.
+// The status of a command on a text, whose output and notes are kept.
 fn status_on(
     alloc: Global,
     text: &str,
@@ -77,8 +77,8 @@ fn status_on(
     Ok(run_once(alloc, words.as_slice(), &mut source, sink, notes))
 }
 
-/// Whether this is the status, this the output and this what the notes got, which take five bytes at a call and fail at
-/// this one.
+// Whether this is the status, this the output and this what the notes got, which take five bytes at a call and fail at
+// this one.
 fn leaves(
     alloc: Global,
     text: &str,

@@ -13,7 +13,7 @@ fn class(alloc: Global, name: &str) -> Result<Class, Memory> {
     Ok(Class::Named(Word::of(alloc, name)?))
 }
 
-/// That the first class is below the second.
+// That the first class is below the second.
 fn below(alloc: Global, lower: &str, upper: &str) -> Result<Noted, Memory> {
     let lower = class(alloc, lower)?;
     let axiom = Axiom::SubClassOf(lower, class(alloc, upper)?);
@@ -41,14 +41,14 @@ fn put(batch: &mut Batch, sign: Sign, noted: Noted) -> Result<(), Memory>
     batch.push(Op { sign, noted })
 }
 
-/// An addition alone.
+// An addition alone.
 pub(crate) fn addition(alloc: Global) -> Result<Batch, Memory> {
     let mut batch = Batch::new(alloc);
     put(&mut batch, Sign::Add, below(alloc, "u:A", "u:B")?)?;
     Ok(batch)
 }
 
-/// A declaration and an axiom that is put in, taken out and put in again.
+// A declaration and an axiom that is put in, taken out and put in again.
 fn batch(alloc: Global) -> Result<Batch, Memory> {
     let mut batch = Batch::new(alloc);
     put(&mut batch, Sign::Add, below(alloc, "u:A", "u:B")?)?;
@@ -58,7 +58,7 @@ fn batch(alloc: Global) -> Result<Batch, Memory> {
     Ok(batch)
 }
 
-/// The counts of the edition's axioms: all, logical and carried.
+// The counts of the edition's axioms: all, logical and carried.
 fn counts(edition: &Edition) -> [u32; 3] {
     [
         edition.len(),
@@ -67,7 +67,7 @@ fn counts(edition: &Edition) -> [u32; 3] {
     ]
 }
 
-/// Whether the edition lists the declaration before the axiom.
+// Whether the edition lists the declaration before the axiom.
 fn lists_both(alloc: Global, edition: &Edition) -> Result<bool, Memory> {
     let axiom = below(alloc, "u:A", "u:B")?;
     let declaration = declaration(alloc, "u:A")?;

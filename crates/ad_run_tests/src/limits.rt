@@ -14,7 +14,7 @@ const THREE: &str =
 
 const EMPTY: &str = "OK 0 12\nOntology(\n)\n";
 
-/// How a session of the machine over this input ends, whose replies are kept.
+// How a session of the machine over this input ends, whose replies are kept.
 fn end_of(
     alloc: Global,
     machine: &mut Machine,
@@ -31,7 +31,7 @@ fn end_of(
     }
 }
 
-/// Whether a session over a new machine with these limits answers the input so, and ends so.
+// Whether a session over a new machine with these limits answers the input so, and ends so.
 fn answers(
     alloc: Global,
     limits: Limits,

@@ -10,10 +10,10 @@ use std::alloc::Global;
 use std::process::Abort;
 use std::test::Fail;
 
-/// A session's number, its input and the replies to it.
+// A session's number, its input and the replies to it.
 type Dialogue = (u32, &'static str, &'static str);
 
-/// How a session of the machine over this input ends, whose replies are kept.
+// How a session of the machine over this input ends, whose replies are kept.
 fn end_of(
     alloc: Global,
     machine: &mut Machine,
@@ -31,7 +31,7 @@ fn end_of(
     }
 }
 
-/// Whether a session of the machine answers the input so, to its end.
+// Whether a session of the machine answers the input so, to its end.
 fn answers(alloc: Global, machine: &mut Machine, dialogue: Dialogue) -> Result<bool, Memory> {
     let (index, input, replies) = dialogue;
     let mut sink = SureSink::new(alloc, 4096)?;
@@ -39,7 +39,7 @@ fn answers(alloc: Global, machine: &mut Machine, dialogue: Dialogue) -> Result<b
     Ok(found == End::Closed && sink.bytes() == replies.as_bytes())
 }
 
-/// The numbers of the newest edition and of those that two sessions have entered.
+// The numbers of the newest edition and of those that two sessions have entered.
 fn numbers(machine: &Machine) -> [u32; 3] {
     let newest = machine.newest().number();
     if machine.sessions() < 2 {
@@ -99,7 +99,7 @@ fn entered_editions(rt: HostRuntime) -> Result<(), Fail> {
     Ok(())
 }
 
-/// The receipt of an addition that makes the first edition.
+// The receipt of an addition that makes the first edition.
 const FIRST: Receipt = Receipt {
     number: 1,
     added: 1,
@@ -108,7 +108,7 @@ const FIRST: Receipt = Receipt {
     absent: 0,
 };
 
-/// Whether the batch of a session is accepted so.
+// Whether the batch of a session is accepted so.
 fn accepts(
     alloc: Global,
     machine: &mut Machine,
@@ -144,7 +144,7 @@ fn entering(rt: HostRuntime) -> Result<(), Fail> {
     Ok(())
 }
 
-/// The number of the edition that the machine lends to its session.
+// The number of the edition that the machine lends to its session.
 fn lent(rt: &impl Abort, machine: &mut Machine) -> u32 {
     assert!(rt; machine.look() == Ok(()));
     machine.edition().number()

@@ -5,7 +5,7 @@ use ad_reply::{Refusal, refuse};
 use std::alloc::Global;
 use std::test::Fail;
 
-/// Whether this is the line that refuses a request.
+// Whether this is the line that refuses a request.
 fn refuses_with(alloc: Global, refusal: Refusal, line: &str) -> Result<bool, Memory> {
     let mut sink = SureSink::new(alloc, 100)?;
     let wrote = refuse(refusal, &mut sink);

@@ -8,20 +8,20 @@ use ad_session::{End, Work, session};
 use std::alloc::Global;
 use std::test::Fail;
 
-/// An edit, a module, an edit that is none and whose line feed ends an empty line, and the whole ontology.
+// An edit, a module, an edit that is none and whose line feed ends an empty line, and the whole ontology.
 const WORKED: &str =
     "EDIT 25\n+SubClassOf(<u:A> <u:B>)\nMODULE bottom 13\nClass(<u:A>)\nEDIT 4\nwhat\nEXPORT\n";
 
 const WORKED_REPLIES: &str =
     "OK 1 37\nadded 1 already 0 removed 0 absent 0\nOK 1 36\nOntology(\nSubClassOf(<u:A> <u:B>)\n)\nNO 20 0\nNO 10\nOK 1 36\nOntology(\nSubClassOf(<u:A> <u:B>)\n)\n";
 
-/// Where each item of the worked input ends, and how many bytes the replies up to its own have.
+// Where each item of the worked input ends, and how many bytes the replies up to its own have.
 const ITEMS: [(usize, usize); 5] = [(33, 45), (63, 89), (74, 97), (75, 103), (82, 147)];
 
-/// The number of a call that is never made.
+// The number of a call that is never made.
 const NEVER: u64 = 1000;
 
-/// How many bytes at a call, and the calls of the source and of the sink that fail.
+// How many bytes at a call, and the calls of the source and of the sink that fail.
 #[derive(Clone, Copy)]
 struct Given {
     piece: usize,
@@ -29,7 +29,7 @@ struct Given {
     write: u64,
 }
 
-/// The end of the session, how many bytes of the worked replies were written, and how many edits were made.
+// The end of the session, how many bytes of the worked replies were written, and how many edits were made.
 #[derive(Clone, Copy)]
 struct Wanted {
     end: End,
@@ -37,7 +37,7 @@ struct Wanted {
     edits: u32,
 }
 
-/// How many bytes of replies there are to the items that stand whole in so many bytes.
+// How many bytes of replies there are to the items that stand whole in so many bytes.
 fn replies_to(bytes: usize) -> usize {
     let mut written = 0;
     for (behind, count) in ITEMS {
@@ -61,7 +61,7 @@ fn sink_of(alloc: Global, given: Given) -> Result<MemSink, Memory>
     MemSink::new(alloc, 4096, given.piece, vec![in alloc; given.write]?)
 }
 
-/// How the session over these ends, and how many edits were made.
+// How the session over these ends, and how many edits were made.
 fn end_of(alloc: Global, source: &mut MemSource, sink: &mut MemSink) -> Result<(End, u32), Memory> {
     let limits = Limits::standard();
     let mut machine = Machine::new(alloc, limits, 1, 1)?;
@@ -74,7 +74,7 @@ fn end_of(alloc: Global, source: &mut MemSource, sink: &mut MemSink) -> Result<(
     Ok((end, machine.newest().number()))
 }
 
-/// Whether a front of the worked replies of this length was written, and no more.
+// Whether a front of the worked replies of this length was written, and no more.
 fn has_written(sink: &MemSink, count: usize) -> bool {
     sink.bytes().len() == count && WORKED_REPLIES.as_bytes().starts_with(sink.bytes())
 }

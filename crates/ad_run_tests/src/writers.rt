@@ -21,7 +21,7 @@ fn axiom(alloc: Global) -> Result<Noted, Memory> {
     })
 }
 
-/// Whether a sink that fails at this call gets a front of the text of this length, and it is told whether that is all.
+// Whether a sink that fails at this call gets a front of the text of this length, and it is told whether that is all.
 fn gets(alloc: Global, noted: &Noted, call: u64, front: usize) -> Result<bool, Memory> {
     let mut sink = MemSink::new(alloc, 100, 100, vec![in alloc; call]?)?;
     let wrote = write_to(noted, &mut sink);

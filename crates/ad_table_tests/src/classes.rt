@@ -155,7 +155,7 @@ static EXACTLY: [Row; 12] = [
     ("ObjectExactCardinality(2 owl:bottomObjectProperty)", "B", "B", "B"),
 ];
 
-/// Restrictions of data properties, by the same rows as those of object properties.
+// Restrictions of data properties, by the same rows as those of object properties.
 #[rattlefmt::skip]
 static DATA: [Row; 25] = [
     ("DataSomeValuesFrom(<u:p> <u:d>)", "B", "TN", "-"),

@@ -9,20 +9,20 @@ use ad_tree::{Axiom, Class, EntityKind, Noted, Range, Seed, Seen};
 use std::alloc::Global;
 use std::test::Fail;
 
-/// An expression, and what is sure of it: on the bottom side and on the top side where none of its names is seen, and on
-/// both where all are. B is surely empty, T surely everything, N surely not empty, and - nothing.
+// An expression, and what is sure of it: on the bottom side and on the top side where none of its names is seen, and on
+// both where all are. B is surely empty, T surely everything, N surely not empty, and - nothing.
 pub(crate) type Row = (&'static str, &'static str, &'static str, &'static str);
 
-/// An expression, some of its names, and what is sure on the bottom side and on the top side where these are seen.
+// An expression, some of its names, and what is sure on the bottom side and on the top side where these are seen.
 pub(crate) type SeenRow = (&'static str, &'static str, &'static str, &'static str);
 
-/// An axiom, and the sides on which it is local where none of its names is seen, and where all are.
+// An axiom, and the sides on which it is local where none of its names is seen, and where all are.
 pub(crate) type AxiomRow = (&'static str, &'static str, &'static str);
 
-/// An axiom, some of its names, and the sides on which it is local where these are seen.
+// An axiom, some of its names, and the sides on which it is local where these are seen.
 pub(crate) type SeenAxiomRow = (&'static str, &'static str, &'static str);
 
-/// All names.
+// All names.
 #[derive(Clone, Copy)]
 struct AllNames {}
 
@@ -34,7 +34,7 @@ impl Seen for AllNames {
     }
 }
 
-/// The axiom that a text of fewer than 1000 bytes spells.
+// The axiom that a text of fewer than 1000 bytes spells.
 fn axiom(alloc: Global, text: &str) -> Option<Noted> {
     if text.len() >= 1_000 {
         return None;
@@ -42,7 +42,7 @@ fn axiom(alloc: Global, text: &str) -> Option<Noted> {
     read_axiom(alloc, text.as_bytes(), &Limits::standard()).ok()
 }
 
-/// The seed that a text of fewer than 1000 bytes spells.
+// The seed that a text of fewer than 1000 bytes spells.
 fn seed(alloc: Global, text: &str) -> Option<Seed> {
     if text.len() >= 1_000 {
         return None;
@@ -50,19 +50,19 @@ fn seed(alloc: Global, text: &str) -> Option<Seed> {
     read_seed(alloc, text.as_bytes(), &Limits::standard()).ok()
 }
 
-/// The assertion that an individual is of this class.
+// The assertion that an individual is of this class.
 fn asserted(alloc: Global, class: &str) -> Result<Noted, Fail> {
     let text = format!(in alloc; "ClassAssertion({class} <u:i>)")?;
     Ok(axiom(alloc, text.as_str()).ok_or("no class")?)
 }
 
-/// The axiom that a property has this range.
+// The axiom that a property has this range.
 fn ranged(alloc: Global, range: &str) -> Result<Noted, Fail> {
     let text = format!(in alloc; "DataPropertyRange(<u:p> {range})")?;
     Ok(axiom(alloc, text.as_str()).ok_or("no range")?)
 }
 
-/// The letters of the columns.
+// The letters of the columns.
 pub(crate) fn letters(surely: Surely) -> &'static str {
     match (surely.empty, surely.whole, surely.nonempty) {
         (true, false, false) => "B",
@@ -73,7 +73,7 @@ pub(crate) fn letters(surely: Surely) -> &'static str {
     }
 }
 
-/// The columns of the asserted class.
+// The columns of the asserted class.
 pub(crate) fn of_class<S: Seen>(side: Side, seen: &S, noted: &Noted) -> &'static str {
     match &noted.axiom {
         Axiom::ClassAssertion(class, _) => letters(class_surely(side, seen, class)),
@@ -81,7 +81,7 @@ pub(crate) fn of_class<S: Seen>(side: Side, seen: &S, noted: &Noted) -> &'static
     }
 }
 
-/// The columns of the range.
+// The columns of the range.
 pub(crate) fn of_range<S: Seen>(side: Side, seen: &S, noted: &Noted) -> &'static str {
     match &noted.axiom {
         Axiom::DataPropertyRange(_, range) => letters(range_surely(side, seen, range)),
@@ -89,7 +89,7 @@ pub(crate) fn of_range<S: Seen>(side: Side, seen: &S, noted: &Noted) -> &'static
     }
 }
 
-/// The sides on which an axiom is local.
+// The sides on which an axiom is local.
 fn sides<S: Seen>(seen: &S, noted: &Noted) -> &'static str {
     let bottom = is_local(Side::Bottom, &noted.axiom, seen);
     let top = is_local(Side::Top, &noted.axiom, seen);
@@ -145,7 +145,7 @@ fn is_seen_axiom_row(alloc: Global, row: SeenAxiomRow) -> Result<bool, Fail> {
     Ok(sides(&seen, &noted) == local)
 }
 
-/// The first class expression of which the table says something else, or nothing.
+// The first class expression of which the table says something else, or nothing.
 pub(crate) fn wrong_class(alloc: Global, rows: &[Row]) -> Result<&'static str, Fail> {
     for row in rows.iter().copied() {
         if !is_class_row(alloc, row)? {
@@ -155,7 +155,7 @@ pub(crate) fn wrong_class(alloc: Global, rows: &[Row]) -> Result<&'static str, F
     Ok("")
 }
 
-/// The first data range of which the table says something else, or nothing.
+// The first data range of which the table says something else, or nothing.
 pub(crate) fn wrong_range(alloc: Global, rows: &[Row]) -> Result<&'static str, Fail> {
     for row in rows.iter().copied() {
         if !is_range_row(alloc, row)? {
@@ -165,7 +165,7 @@ pub(crate) fn wrong_range(alloc: Global, rows: &[Row]) -> Result<&'static str, F
     Ok("")
 }
 
-/// The first class expression of which the table says something else for these names, or nothing.
+// The first class expression of which the table says something else for these names, or nothing.
 pub(crate) fn wrong_seen(alloc: Global, rows: &[SeenRow]) -> Result<&'static str, Fail> {
     for row in rows.iter().copied() {
         if !is_seen_row(alloc, row)? {
@@ -175,7 +175,7 @@ pub(crate) fn wrong_seen(alloc: Global, rows: &[SeenRow]) -> Result<&'static str
     Ok("")
 }
 
-/// The first axiom of which the table says something else, or nothing.
+// The first axiom of which the table says something else, or nothing.
 pub(crate) fn wrong_axiom(alloc: Global, rows: &[AxiomRow]) -> Result<&'static str, Fail> {
     for row in rows.iter().copied() {
         if !is_axiom_row(alloc, row)? {
@@ -185,7 +185,7 @@ pub(crate) fn wrong_axiom(alloc: Global, rows: &[AxiomRow]) -> Result<&'static s
     Ok("")
 }
 
-/// The first axiom of which the table says something else for these names, or nothing.
+// The first axiom of which the table says something else for these names, or nothing.
 pub(crate) fn wrong_seen_axiom(alloc: Global, rows: &[SeenAxiomRow]) -> Result<&'static str, Fail> {
     for row in rows.iter().copied() {
         if !is_seen_axiom_row(alloc, row)? {

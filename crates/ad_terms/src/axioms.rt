@@ -40,7 +40,7 @@ pub fn axiom_of(alloc: Global, word: AxiomWord, arguments: Stack) -> Result<Opti
     }
 }
 
-/// A class below another.
+// A class below another.
 fn sub_class_of(arguments: Stack) -> Option<Axiom>
     ensures { result ≡ axiom_of axiomword.SubClassOf arguments }
 {
@@ -48,7 +48,7 @@ fn sub_class_of(arguments: Stack) -> Option<Axiom>
     Some(Axiom::SubClassOf(lower, upper))
 }
 
-/// Classes that are the same, or have nothing in common.
+// Classes that are the same, or have nothing in common.
 fn classes(alloc: Global, word: SetWord, arguments: Stack) -> Result<Option<Axiom>, Memory>
     ensures { IfOk result (λ found. found ≡ axiom_of (axiomword.Classes word) arguments) }
 {
@@ -61,7 +61,7 @@ fn classes(alloc: Global, word: SetWord, arguments: Stack) -> Result<Option<Axio
     }
 }
 
-/// A class that is the union of others with nothing in common.
+// A class that is the union of others with nothing in common.
 fn disjoint_union(alloc: Global, arguments: Stack) -> Result<Option<Axiom>, Memory>
     ensures { IfOk result (λ found. found ≡ axiom_of axiomword.DisjointUnion arguments) }
 {
@@ -71,7 +71,7 @@ fn disjoint_union(alloc: Global, arguments: Stack) -> Result<Option<Axiom>, Memo
     }
 }
 
-/// An object property, or a chain of them, below another.
+// An object property, or a chain of them, below another.
 fn sub_property_of(arguments: Stack) -> Option<Axiom>
     ensures { result ≡ axiom_of axiomword.SubObjectPropertyOf arguments }
 {
@@ -79,7 +79,7 @@ fn sub_property_of(arguments: Stack) -> Option<Axiom>
     Some(below(lower, upper))
 }
 
-/// The axiom of this lower and this upper side.
+// The axiom of this lower and this upper side.
 fn below(lower: Lower, upper: ObjProp) -> Axiom
     ensures { result ≡ below lower upper }
 {
@@ -89,7 +89,7 @@ fn below(lower: Lower, upper: ObjProp) -> Axiom
     }
 }
 
-/// Object properties that are the same, or have nothing in common.
+// Object properties that are the same, or have nothing in common.
 fn properties(alloc: Global, word: SetWord, arguments: Stack) -> Result<Option<Axiom>, Memory>
     ensures { IfOk result (λ found. found ≡ axiom_of (axiomword.Properties word) arguments) }
 {
@@ -102,7 +102,7 @@ fn properties(alloc: Global, word: SetWord, arguments: Stack) -> Result<Option<A
     }
 }
 
-/// An object property that is the inverse of another.
+// An object property that is the inverse of another.
 fn inverse(arguments: Stack) -> Option<Axiom>
     ensures { result ≡ axiom_of axiomword.Inverse arguments }
 {
@@ -110,7 +110,7 @@ fn inverse(arguments: Stack) -> Option<Axiom>
     Some(Axiom::InverseObjectProperties(first, second))
 }
 
-/// The domain or the range of an object property.
+// The domain or the range of an object property.
 fn property_end(word: EndWord, arguments: Stack) -> Option<Axiom>
     ensures { result ≡ axiom_of (axiomword.PropertyEnd word) arguments }
 {
@@ -121,7 +121,7 @@ fn property_end(word: EndWord, arguments: Stack) -> Option<Axiom>
     })
 }
 
-/// What an object property is.
+// What an object property is.
 fn property_trait(word: TraitWord, arguments: Stack) -> Option<Axiom>
     ensures { result ≡ axiom_of (axiomword.Trait word) arguments }
 {
@@ -137,7 +137,7 @@ fn property_trait(word: TraitWord, arguments: Stack) -> Option<Axiom>
     })
 }
 
-/// An axiom on two names.
+// An axiom on two names.
 fn names(word: NamesWord, arguments: Stack) -> Option<Axiom>
     ensures { result ≡ axiom_of (axiomword.Names word) arguments }
 {
@@ -150,7 +150,7 @@ fn names(word: NamesWord, arguments: Stack) -> Option<Axiom>
     })
 }
 
-/// Data properties that are the same, or have nothing in common.
+// Data properties that are the same, or have nothing in common.
 fn data_properties(alloc: Global, word: SetWord, arguments: Stack) -> Result<Option<Axiom>, Memory>
     ensures { IfOk result (λ found. found ≡ axiom_of (axiomword.DataProperties word) arguments) }
 {
@@ -163,7 +163,7 @@ fn data_properties(alloc: Global, word: SetWord, arguments: Stack) -> Result<Opt
     }
 }
 
-/// The domain of a data property.
+// The domain of a data property.
 fn data_domain(arguments: Stack) -> Option<Axiom>
     ensures { result ≡ axiom_of axiomword.DataPropertyDomain arguments }
 {
@@ -171,7 +171,7 @@ fn data_domain(arguments: Stack) -> Option<Axiom>
     Some(Axiom::DataPropertyDomain(property, domain))
 }
 
-/// The range of a data property.
+// The range of a data property.
 fn data_range(arguments: Stack) -> Option<Axiom>
     ensures { result ≡ axiom_of axiomword.DataPropertyRange arguments }
 {
@@ -179,7 +179,7 @@ fn data_range(arguments: Stack) -> Option<Axiom>
     Some(Axiom::DataPropertyRange(property, range))
 }
 
-/// A data property with one value at most.
+// A data property with one value at most.
 fn functional_data(arguments: Stack) -> Option<Axiom>
     ensures { result ≡ axiom_of axiomword.FunctionalDataProperty arguments }
 {
@@ -187,7 +187,7 @@ fn functional_data(arguments: Stack) -> Option<Axiom>
     Some(Axiom::FunctionalDataProperty(property))
 }
 
-/// A datatype that is a data range.
+// A datatype that is a data range.
 fn datatype_definition(arguments: Stack) -> Option<Axiom>
     ensures { result ≡ axiom_of axiomword.DatatypeDefinition arguments }
 {
@@ -195,7 +195,7 @@ fn datatype_definition(arguments: Stack) -> Option<Axiom>
     Some(Axiom::DatatypeDefinition(datatype, range))
 }
 
-/// Individuals that are the same, or no two of them.
+// Individuals that are the same, or no two of them.
 fn individuals(alloc: Global, word: SetWord, arguments: Stack) -> Result<Option<Axiom>, Memory>
     ensures { IfOk result (λ found. found ≡ axiom_of (axiomword.Individuals word) arguments) }
 {
@@ -208,7 +208,7 @@ fn individuals(alloc: Global, word: SetWord, arguments: Stack) -> Result<Option<
     }
 }
 
-/// An individual of a class.
+// An individual of a class.
 fn class_assertion(arguments: Stack) -> Option<Axiom>
     ensures { result ≡ axiom_of axiomword.ClassAssertion arguments }
 {
@@ -216,7 +216,7 @@ fn class_assertion(arguments: Stack) -> Option<Axiom>
     Some(Axiom::ClassAssertion(class, individual))
 }
 
-/// An individual to which an object property leads from another, or does not.
+// An individual to which an object property leads from another, or does not.
 fn property_fact(word: FactWord, arguments: Stack) -> Option<Axiom>
     ensures { result ≡ axiom_of (axiomword.PropertyFact word) arguments }
 {
@@ -227,7 +227,7 @@ fn property_fact(word: FactWord, arguments: Stack) -> Option<Axiom>
     })
 }
 
-/// A value to which a data property leads from an individual, or does not.
+// A value to which a data property leads from an individual, or does not.
 fn data_fact(word: FactWord, arguments: Stack) -> Option<Axiom>
     ensures { result ≡ axiom_of (axiomword.DataFact word) arguments }
 {
@@ -238,7 +238,7 @@ fn data_fact(word: FactWord, arguments: Stack) -> Option<Axiom>
     })
 }
 
-/// A declared entity.
+// A declared entity.
 fn declaration(arguments: Stack) -> Option<Axiom>
     ensures { result ≡ axiom_of axiomword.Declaration arguments }
 {
@@ -246,7 +246,7 @@ fn declaration(arguments: Stack) -> Option<Axiom>
     Some(Axiom::Declaration(declared))
 }
 
-/// A value of an annotation property.
+// A value of an annotation property.
 fn annotation_assertion(arguments: Stack) -> Option<Axiom>
     ensures { result ≡ axiom_of axiomword.AnnotationAssertion arguments }
 {

@@ -29,7 +29,7 @@ pub fn class_of(alloc: Global, word: ClassWord, arguments: Stack) -> Result<Opti
     }
 }
 
-/// What is in each of these classes, or in any.
+// What is in each of these classes, or in any.
 fn joined(alloc: Global, word: JoinWord, arguments: Stack) -> Result<Option<Class>, Memory>
     ensures { IfOk result (λ found. found ≡ class_of (classword.Join word) arguments) }
 {
@@ -42,7 +42,7 @@ fn joined(alloc: Global, word: JoinWord, arguments: Stack) -> Result<Option<Clas
     }
 }
 
-/// What is not in a class.
+// What is not in a class.
 fn complement(alloc: Global, arguments: Stack) -> Result<Option<Class>, Memory>
     ensures { IfOk result (λ found. found ≡ class_of classword.Complement arguments) }
 {
@@ -52,7 +52,7 @@ fn complement(alloc: Global, arguments: Stack) -> Result<Option<Class>, Memory>
     }
 }
 
-/// These individuals.
+// These individuals.
 fn one_of(alloc: Global, arguments: Stack) -> Result<Option<Class>, Memory>
     ensures { IfOk result (λ found. found ≡ class_of classword.OneOf arguments) }
 {
@@ -62,7 +62,7 @@ fn one_of(alloc: Global, arguments: Stack) -> Result<Option<Class>, Memory>
     }
 }
 
-/// What an object property leads from to a filler.
+// What an object property leads from to a filler.
 fn object_filler(alloc: Global, word: FillerWord, arguments: Stack) -> Result<Option<Class>, Memory>
     ensures { IfOk result (λ found. found ≡ class_of (classword.ObjectFiller word) arguments) }
 {
@@ -75,7 +75,7 @@ fn object_filler(alloc: Global, word: FillerWord, arguments: Stack) -> Result<Op
     }
 }
 
-/// What an object property leads from to an individual.
+// What an object property leads from to an individual.
 fn object_value(arguments: Stack) -> Option<Class>
     ensures { result ≡ class_of classword.ObjectValue arguments }
 {
@@ -83,7 +83,7 @@ fn object_value(arguments: Stack) -> Option<Class>
     Some(Class::ObjValue(property, individual))
 }
 
-/// What an object property leads from to itself.
+// What an object property leads from to itself.
 fn object_self(arguments: Stack) -> Option<Class>
     ensures { result ≡ class_of classword.ObjectSelf arguments }
 {
@@ -91,7 +91,7 @@ fn object_self(arguments: Stack) -> Option<Class>
     Some(Class::ObjSelf(property))
 }
 
-/// What an object property leads from to so many of a filler.
+// What an object property leads from to so many of a filler.
 fn object_count(alloc: Global, word: CountWord, arguments: Stack) -> Result<Option<Class>, Memory>
     ensures { IfOk result (λ found. found ≡ class_of (classword.ObjectCount word) arguments) }
 {
@@ -105,7 +105,7 @@ fn object_count(alloc: Global, word: CountWord, arguments: Stack) -> Result<Opti
     }
 }
 
-/// What a data property leads from to a data range.
+// What a data property leads from to a data range.
 fn data_filler(word: FillerWord, arguments: Stack) -> Option<Class>
     ensures { result ≡ class_of (classword.DataFiller word) arguments }
 {
@@ -116,7 +116,7 @@ fn data_filler(word: FillerWord, arguments: Stack) -> Option<Class>
     })
 }
 
-/// What a data property leads from to a literal.
+// What a data property leads from to a literal.
 fn data_value(arguments: Stack) -> Option<Class>
     ensures { result ≡ class_of classword.DataValue arguments }
 {
@@ -124,7 +124,7 @@ fn data_value(arguments: Stack) -> Option<Class>
     Some(Class::DataValue(property, value))
 }
 
-/// What a data property leads from to so many of a data range.
+// What a data property leads from to so many of a data range.
 fn data_count(word: CountWord, arguments: Stack) -> Option<Class>
     ensures { result ≡ class_of (classword.DataCount word) arguments }
 {
@@ -136,7 +136,7 @@ fn data_count(word: CountWord, arguments: Stack) -> Option<Class>
     })
 }
 
-/// A property and its filler.
+// A property and its filler.
 fn filled(alloc: Global, mut arguments: Stack) -> Result<Option<(ObjProp, One<Class>)>, Memory>
     ensures { IfOk result (λ found. found ≡ two as_property as_class arguments) }
 {
@@ -145,7 +145,7 @@ fn filled(alloc: Global, mut arguments: Stack) -> Result<Option<(ObjProp, One<Cl
     Ok(property.zip(filler))
 }
 
-/// A number, a property, and its filler, which may be absent.
+// A number, a property, and its filler, which may be absent.
 fn counted_filled(
     alloc: Global,
     mut arguments: Stack,
@@ -157,7 +157,7 @@ fn counted_filled(
     Ok(n.zip(filled))
 }
 
-/// A property and its filler, which may be absent.
+// A property and its filler, which may be absent.
 fn optionally_filled(
     alloc: Global,
     mut arguments: Stack,
@@ -169,7 +169,7 @@ fn optionally_filled(
     Ok(property.zip(filler))
 }
 
-/// A filler, which may be absent.
+// A filler, which may be absent.
 fn optional_filler(alloc: Global, arguments: Stack) -> Result<Option<Option<One<Class>>>, Memory>
     ensures { IfOk result (λ found. found ≡ optional as_class arguments) }
 {

@@ -9,7 +9,7 @@ use ad_base::Memory;
 use ad_tree::{Axiom, Class, Many, ObjProps, Words};
 use std::alloc::Global;
 
-/// A key: a class, and two lists between parentheses.
+// A key: a class, and two lists between parentheses.
 pub(crate) fn key(alloc: Global, mut arguments: Stack) -> Result<Option<Axiom>, Memory>
     ensures { IfOk result (λ found. found ≡ key arguments) }
 {
@@ -17,7 +17,7 @@ pub(crate) fn key(alloc: Global, mut arguments: Stack) -> Result<Option<Axiom>, 
     Ok(keyed(class, two_lists(alloc, arguments)?))
 }
 
-/// The key of a class and two lists, if all are there.
+// The key of a class and two lists, if all are there.
 fn keyed(class: Option<Class>, lists: Option<(ObjProps, Words)>) -> Option<Axiom>
     ensures { result ≡ keyed class lists }
 {
@@ -25,7 +25,7 @@ fn keyed(class: Option<Class>, lists: Option<(ObjProps, Words)>) -> Option<Axiom
     Some(Axiom::HasKey(class, objects, names))
 }
 
-/// Two lists between parentheses, with nothing behind them.
+// Two lists between parentheses, with nothing behind them.
 fn two_lists(alloc: Global, mut arguments: Stack) -> Result<Option<(ObjProps, Words)>, Memory>
     ensures { IfOk result (λ found. found ≡ two_lists arguments) }
 {
@@ -34,7 +34,7 @@ fn two_lists(alloc: Global, mut arguments: Stack) -> Result<Option<(ObjProps, Wo
     Ok(objects.zip(names))
 }
 
-/// The list between parentheses, with nothing behind it.
+// The list between parentheses, with nothing behind it.
 fn last_list<A: ReadsAs>(alloc: Global, mut arguments: Stack) -> Result<Option<Many<A>>, Memory>
     ensures { IfOk result (λ found. found ≡ last_list (list_at A.as_item arguments)) }
 {
@@ -46,7 +46,7 @@ fn last_list<A: ReadsAs>(alloc: Global, mut arguments: Stack) -> Result<Option<M
     }
 }
 
-/// Takes the list between parentheses on top, if one is.
+// Takes the list between parentheses on top, if one is.
 fn list<A: ReadsAs>(alloc: Global, arguments: &mut Stack) -> Result<Option<Many<A>>, Memory>
     ensures { IfOk result (λ found. (found ≡ (list_at A.as_item arguments.old).0) × (arguments.new ≡ (list_at A.as_item arguments.old).1)) }
 {

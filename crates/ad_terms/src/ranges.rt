@@ -22,7 +22,7 @@ pub fn range_of(alloc: Global, word: RangeWord, arguments: Stack) -> Result<Opti
     }
 }
 
-/// What is in each of these data ranges, or in any.
+// What is in each of these data ranges, or in any.
 fn joined(alloc: Global, word: JoinWord, arguments: Stack) -> Result<Option<Range>, Memory>
     ensures { IfOk result (λ found. found ≡ range_of (rangeword.Join word) arguments) }
 {
@@ -35,7 +35,7 @@ fn joined(alloc: Global, word: JoinWord, arguments: Stack) -> Result<Option<Rang
     }
 }
 
-/// What is not in a data range.
+// What is not in a data range.
 fn complement(alloc: Global, arguments: Stack) -> Result<Option<Range>, Memory>
     ensures { IfOk result (λ found. found ≡ range_of rangeword.Complement arguments) }
 {
@@ -45,7 +45,7 @@ fn complement(alloc: Global, arguments: Stack) -> Result<Option<Range>, Memory>
     }
 }
 
-/// These literals.
+// These literals.
 fn one_of(alloc: Global, arguments: Stack) -> Result<Option<Range>, Memory>
     ensures { IfOk result (λ found. found ≡ range_of rangeword.OneOf arguments) }
 {
@@ -55,7 +55,7 @@ fn one_of(alloc: Global, arguments: Stack) -> Result<Option<Range>, Memory>
     }
 }
 
-/// A datatype, and facets of it.
+// A datatype, and facets of it.
 fn restriction(alloc: Global, mut arguments: Stack) -> Result<Option<Range>, Memory>
     ensures { IfOk result (λ found. found ≡ restriction arguments) }
 {
@@ -68,7 +68,7 @@ fn restriction(alloc: Global, mut arguments: Stack) -> Result<Option<Range>, Mem
     )
 }
 
-/// Names of facets, each with its value.
+// Names of facets, each with its value.
 fn facets(alloc: Global, mut arguments: Stack) -> Result<Option<Facets>, Memory>
     ensures { IfOk result (λ found. found ≡ facets arguments) }
 {
@@ -82,7 +82,7 @@ fn facets(alloc: Global, mut arguments: Stack) -> Result<Option<Facets>, Memory>
     Ok(Some(all))
 }
 
-/// Takes the facet of a name and the value behind it.
+// Takes the facet of a name and the value behind it.
 fn facet(arguments: &mut Stack) -> Option<Facet>
     ensures found { result ≡ facet arguments.old }
     ensures behind { arguments.new ≡ behind_top (behind_top arguments.old) }

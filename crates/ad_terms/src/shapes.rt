@@ -64,7 +64,7 @@ pub fn optional<A: ReadsAs>(arguments: Stack) -> Option<Option<A>>
     }
 }
 
-/// An argument, and one that may be absent.
+// An argument, and one that may be absent.
 fn optional_behind<A: ReadsAs, B: ReadsAs>(mut arguments: Stack) -> Option<(A, Option<B>)>
     ensures { result ≡ optional_behind A.as_item B.as_item arguments }
 {

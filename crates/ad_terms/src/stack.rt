@@ -37,7 +37,7 @@ impl Stack {
         }
     }
 
-    /// The stack of these items, of which the first is on top.
+    // The stack of these items, of which the first is on top.
     fn of(mut items: Vec<StackItem>) -> Stack
         ensures { result ≡ items.items }
     {
@@ -113,7 +113,7 @@ impl Stack {
         Ok(())
     }
 
-    /// Takes the name on top, if one is.
+    // Takes the name on top, if one is.
     fn name(&mut self) -> Result<Option<Word>, Memory>
         ensures { IfOk result (λ found. MatchOption found ((behind_names self.old ≡ self.old) × (self.new ≡ self.old)) (λ name. self.old ≡ i.Name name ∷ self.new)) }
     {
@@ -127,7 +127,7 @@ impl Stack {
         }
     }
 
-    /// Takes the annotation on top, if one is.
+    // Takes the annotation on top, if one is.
     fn note(&mut self) -> Result<Option<Annotation>, Memory>
         ensures { IfOk result (λ found. MatchOption found ((leading_notes self.old ≡ ([], self.old)) × (self.new ≡ self.old)) (λ note. self.old ≡ i.Note note ∷ self.new)) }
     {
@@ -142,7 +142,7 @@ impl Stack {
     }
 }
 
-/// How many parentheses are open behind an item, or None where it closes what was taken.
+// How many parentheses are open behind an item, or None where it closes what was taken.
 fn depth_behind(item: &StackItem, depth: usize) -> Option<usize>
     requires { depth < 18446744073709551615 }
     ensures depth { result ≡ depth_behind item.now depth }

@@ -18,7 +18,7 @@ use std::alloc::Global;
 use std::process::Abort;
 use std::test::Fail;
 
-/// What is built.
+// What is built.
 #[derive(Clone, Copy)]
 enum Form {
     Class,
@@ -28,8 +28,8 @@ enum Form {
     Literal,
 }
 
-/// Texts, a token in each, and the number of the token behind the phrase that begins there with an axiom about it; or the
-/// token at which no phrase goes on; or the place of the first name whose prefix is unknown.
+// Texts, a token in each, and the number of the token behind the phrase that begins there with an axiom about it; or the
+// token at which no phrase goes on; or the place of the first name whose prefix is unknown.
 static CLASSES: [(&str, u32, &str); 10] = [
     (
         "ObjectComplementOf(<u:A>) <u:B>",
@@ -112,14 +112,14 @@ static LITERALS: [(&str, u32, &str); 7] = [
     ("\"a\"^^ x", 0, "stop 2"),
 ];
 
-/// The standard prefixes, and `a:`.
+// The standard prefixes, and `a:`.
 fn prefixes(alloc: Global) -> Result<Prefixes, Fail> {
     let mut prefixes = Prefixes::standard(alloc)?;
     prefixes.declare(alloc, "a", Word::of(alloc, "u:")?)?;
     Ok(prefixes)
 }
 
-/// A number, and the text of an axiom.
+// A number, and the text of an axiom.
 fn written(alloc: Global, to: u32, axiom: Axiom) -> Result<Vec<u8>, Fail> {
     let noted = Noted {
         notes: Annotations::new(alloc),
@@ -133,7 +133,7 @@ fn written(alloc: Global, to: u32, axiom: Axiom) -> Result<Vec<u8>, Fail> {
     Ok(out)
 }
 
-/// A refusal in words.
+// A refusal in words.
 fn refused(alloc: Global, refused: BuildRefused) -> Result<Vec<u8>, Fail> {
     let text = match refused {
         BuildRefused::Prefix { at } => format!(in alloc; "Prefix {at}")?,
@@ -142,19 +142,19 @@ fn refused(alloc: Global, refused: BuildRefused) -> Result<Vec<u8>, Fail> {
     Ok(text.as_bytes().to_vec(alloc)?)
 }
 
-/// The token at which no phrase goes on, in words.
+// The token at which no phrase goes on, in words.
 fn stopped(alloc: Global, stop: Stop) -> Result<Vec<u8>, Fail> {
     let token = stop.token;
     let text = format!(in alloc; "stop {token}")?;
     Ok(text.as_bytes().to_vec(alloc)?)
 }
 
-/// A name of its own.
+// A name of its own.
 fn individual(alloc: Global) -> Result<Individual, Fail> {
     Ok(Individual::Named(Word::of(alloc, "u:i")?))
 }
 
-/// The class that begins at a token, in an axiom.
+// The class that begins at a token, in an axiom.
 fn class(
     alloc: Global,
     text: &[u8],
@@ -175,7 +175,7 @@ fn class(
     }
 }
 
-/// The range that begins at a token, in an axiom.
+// The range that begins at a token, in an axiom.
 fn range(
     alloc: Global,
     text: &[u8],
@@ -200,7 +200,7 @@ fn range(
     }
 }
 
-/// The property that begins at a token, in an axiom.
+// The property that begins at a token, in an axiom.
 fn property(
     alloc: Global,
     text: &[u8],
@@ -221,7 +221,7 @@ fn property(
     }
 }
 
-/// The individual that begins at a token, in an axiom.
+// The individual that begins at a token, in an axiom.
 fn member(
     alloc: Global,
     text: &[u8],
@@ -246,7 +246,7 @@ fn member(
     }
 }
 
-/// The literal that begins at a token, in an axiom.
+// The literal that begins at a token, in an axiom.
 fn literal(
     alloc: Global,
     text: &[u8],
@@ -271,7 +271,7 @@ fn literal(
     }
 }
 
-/// What is built from a token of these on, in words.
+// What is built from a token of these on, in words.
 fn built(
     alloc: Global,
     text: &[u8],
@@ -295,7 +295,7 @@ fn built(
     }
 }
 
-/// What is built from a token of a text on, in words.
+// What is built from a token of a text on, in words.
 fn shown(alloc: Global, text: &[u8], from: u32, form: Form) -> Result<Vec<u8>, Fail>
     requires { length text.now < 2 ^ 32 }
 {
@@ -305,7 +305,7 @@ fn shown(alloc: Global, text: &[u8], from: u32, form: Form) -> Result<Vec<u8>, F
     }
 }
 
-/// Each text's phrase is built as it has to be.
+// Each text's phrase is built as it has to be.
 fn assert_built(
     rt: &impl Abort,
     alloc: Global,

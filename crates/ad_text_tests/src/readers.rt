@@ -10,7 +10,7 @@ use ad_write::write_to;
 use std::alloc::Global;
 use std::test::Fail;
 
-/// How a text is refused as a single axiom under a limit on the nesting.
+// How a text is refused as a single axiom under a limit on the nesting.
 fn axiom_refused(alloc: Global, text: &str, depth: u32) -> Option<ReadRefused> {
     let mut limits = Limits::standard();
     if depth < limits.depth {
@@ -22,7 +22,7 @@ fn axiom_refused(alloc: Global, text: &str, depth: u32) -> Option<ReadRefused> {
     read_axiom(alloc, text.as_bytes(), &limits).err()
 }
 
-/// Texts, and their first fault as single axioms.
+// Texts, and their first fault as single axioms.
 static NO_AXIOMS: [(&str, u32); 10] = [
     ("", 0),
     ("Prefix(a:=<u:>)", 15),
@@ -45,7 +45,7 @@ fn texts_of_no_axiom(rt: HostRuntime) -> Result<(), Fail> {
     Ok(())
 }
 
-/// Texts that are refused for other causes, with a nesting of three at most.
+// Texts that are refused for other causes, with a nesting of three at most.
 static OTHERS: [(&str, ReadRefused); 6] = [
     ("((((", ReadRefused::Depth { nesting: 4 }),
     (
@@ -81,14 +81,14 @@ fn other_causes(rt: HostRuntime) -> Result<(), Fail> {
     Ok(())
 }
 
-/// The canonical text of an axiom.
+// The canonical text of an axiom.
 fn written(alloc: Global, noted: &Noted) -> Result<SureSink, Memory> {
     let mut sink = SureSink::new(alloc, 1_000)?;
     write_to(noted, &mut sink);
     Ok(sink)
 }
 
-/// Whether a text is read as the single axiom with this canonical text.
+// Whether a text is read as the single axiom with this canonical text.
 fn is_read_as(alloc: Global, text: &str, want: &str) -> Result<bool, Memory> {
     if text.len() >= 1_000 {
         return Ok(false);
@@ -110,7 +110,7 @@ fn single_axioms(rt: HostRuntime) -> Result<(), Fail> {
     Ok(())
 }
 
-/// Whether a seed has one entity of this kind and name, and nothing before it or behind.
+// Whether a seed has one entity of this kind and name, and nothing before it or behind.
 fn has_one(seed: &Seed, kind: EntityKind, name: &str) -> bool {
     match seed.entities() {
         [entity] => entity.kind == kind && entity.name.as_str() == name,
@@ -118,7 +118,7 @@ fn has_one(seed: &Seed, kind: EntityKind, name: &str) -> bool {
     }
 }
 
-/// The seed that a text spells, if it does.
+// The seed that a text spells, if it does.
 fn seed_of(alloc: Global, text: &str) -> Option<Seed> {
     if text.len() >= 1_000 {
         return None;
@@ -126,7 +126,7 @@ fn seed_of(alloc: Global, text: &str) -> Option<Seed> {
     read_seed(alloc, text.as_bytes(), &Limits::standard()).ok()
 }
 
-/// How many entities the seed of a text has.
+// How many entities the seed of a text has.
 fn count_of(alloc: Global, text: &str) -> Option<usize> {
     Some(seed_of(alloc, text)?.entities().len())
 }
@@ -141,7 +141,7 @@ fn seeds(rt: HostRuntime) -> Result<(), Fail> {
     Ok(())
 }
 
-/// How edits and documents are refused with a nesting of three at most.
+// How edits and documents are refused with a nesting of three at most.
 fn refused(alloc: Global, text: &[u8]) -> [Option<ReadRefused>; 2]
     requires { length text.now < 2 ^ 32 }
 {

@@ -8,13 +8,13 @@ use ad_phrases::one_phrase;
 use std::alloc::Global;
 use std::test::Fail;
 
-/// Whether the prefix `a` could be declared as this.
+// Whether the prefix `a` could be declared as this.
 fn is_declared(alloc: Global, prefixes: &mut Prefixes, iri: &str) -> Result<bool, Memory> {
     let iri = Word::of(alloc, iri)?;
     prefixes.declare(alloc, "a", iri)
 }
 
-/// Whether the prefix `a` stands for this.
+// Whether the prefix `a` stands for this.
 fn stands_for(prefixes: &Prefixes, iri: &str) -> bool {
     match prefixes.get("a") {
         Some(found) => found.as_str() == iri,

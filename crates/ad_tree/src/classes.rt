@@ -66,7 +66,7 @@ impl Class {
     }
 }
 
-/// Another list of the same class expressions.
+// Another list of the same class expressions.
 #[cycle(class_copy)]
 pub(crate) fn copy_classes(alloc: Global, parts: &Classes) -> Result<Classes, Memory>
     ensures { IfOk result (λ copy. copy ≡ parts.now) }
@@ -79,7 +79,7 @@ pub(crate) fn copy_classes(alloc: Global, parts: &Classes) -> Result<Classes, Me
     Ok(copy)
 }
 
-/// Another operand, the same.
+// Another operand, the same.
 #[cycle(class_copy)]
 fn copy_one(alloc: Global, part: &One<Class>) -> Result<One<Class>, Memory>
     ensures { IfOk result (λ copy. copy ≡ part.now) }
@@ -87,7 +87,7 @@ fn copy_one(alloc: Global, part: &One<Class>) -> Result<One<Class>, Memory>
     One::new(alloc, part.get().copy(alloc)?)
 }
 
-/// Another optional filler, the same.
+// Another optional filler, the same.
 #[cycle(class_copy)]
 fn copy_optional(alloc: Global, filler: &Option<One<Class>>) -> Result<Option<One<Class>>, Memory>
     ensures { IfOk result (λ copy. copy ≡ filler.now) }

@@ -2,7 +2,7 @@ ghost use Rattle.std.specs.Prelude.{◌≡◌, IfOk, Ok};
 
 use ad_base::Memory;
 
-/// Both values, or want of memory where one is wanting.
+// Both values, or want of memory where one is wanting.
 pub(crate) fn both<A: Drop, B: Drop>(
     first: Result<A, Memory>,
     second: Result<B, Memory>,
@@ -12,7 +12,7 @@ pub(crate) fn both<A: Drop, B: Drop>(
     Ok((first?, second?))
 }
 
-/// All three values, or want of memory where one is wanting.
+// All three values, or want of memory where one is wanting.
 pub(crate) fn all_three<A: Drop, B: Drop, C: Drop>(
     first: Result<A, Memory>,
     second: Result<B, Memory>,

@@ -32,7 +32,7 @@ impl Op {
     }
 }
 
-/// Another list of the same operations.
+// Another list of the same operations.
 fn copy_ops(alloc: Global, parts: &[Op]) -> Result<Many<Op>, Memory>
     ensures { IfOk result (λ copy. copy ≡ parts.now) }
 {

@@ -54,7 +54,7 @@ impl Facet {
     }
 }
 
-/// Another list of the same literals.
+// Another list of the same literals.
 pub(crate) fn copy_literals(alloc: Global, parts: &Literals) -> Result<Literals, Memory>
     ensures { IfOk result (λ copy. copy ≡ parts.now) }
 {
@@ -66,7 +66,7 @@ pub(crate) fn copy_literals(alloc: Global, parts: &Literals) -> Result<Literals,
     Ok(copy)
 }
 
-/// Another list of the same facets.
+// Another list of the same facets.
 pub(crate) fn copy_facets(alloc: Global, parts: &Facets) -> Result<Facets, Memory>
     ensures { IfOk result (λ copy. copy ≡ parts.now) }
 {

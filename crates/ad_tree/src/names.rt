@@ -51,7 +51,7 @@ impl Individual {
     }
 }
 
-/// Another list of the same names.
+// Another list of the same names.
 pub(crate) fn copy_words(alloc: Global, parts: &Words) -> Result<Words, Memory>
     ensures { IfOk result (λ copy. copy ≡ parts.now) }
 {
@@ -63,7 +63,7 @@ pub(crate) fn copy_words(alloc: Global, parts: &Words) -> Result<Words, Memory>
     Ok(copy)
 }
 
-/// Another list of the same properties.
+// Another list of the same properties.
 pub(crate) fn copy_properties(alloc: Global, parts: &ObjProps) -> Result<ObjProps, Memory>
     ensures { IfOk result (λ copy. copy ≡ parts.now) }
 {
@@ -75,7 +75,7 @@ pub(crate) fn copy_properties(alloc: Global, parts: &ObjProps) -> Result<ObjProp
     Ok(copy)
 }
 
-/// Another list of the same individuals.
+// Another list of the same individuals.
 pub(crate) fn copy_individuals(alloc: Global, parts: &Individuals) -> Result<Individuals, Memory>
     ensures { IfOk result (λ copy. copy ≡ parts.now) }
 {

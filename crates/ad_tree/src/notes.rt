@@ -70,7 +70,7 @@ impl Annotation {
     }
 }
 
-/// Another list of the same annotations.
+// Another list of the same annotations.
 #[cycle(annotation_copy)]
 pub(crate) fn copy_annotations(alloc: Global, parts: &Annotations) -> Result<Annotations, Memory>
     ensures { IfOk result (λ copy. copy ≡ parts.now) }

@@ -40,7 +40,7 @@ impl Range {
     }
 }
 
-/// Another list of the same data ranges.
+// Another list of the same data ranges.
 #[cycle(range_copy)]
 pub(crate) fn copy_ranges(alloc: Global, parts: &Ranges) -> Result<Ranges, Memory>
     ensures { IfOk result (λ copy. copy ≡ parts.now) }
@@ -53,7 +53,7 @@ pub(crate) fn copy_ranges(alloc: Global, parts: &Ranges) -> Result<Ranges, Memor
     Ok(copy)
 }
 
-/// Another operand, the same.
+// Another operand, the same.
 #[cycle(range_copy)]
 fn copy_one(alloc: Global, part: &One<Range>) -> Result<One<Range>, Memory>
     ensures { IfOk result (λ copy. copy ≡ part.now) }
@@ -61,7 +61,7 @@ fn copy_one(alloc: Global, part: &One<Range>) -> Result<One<Range>, Memory>
     One::new(alloc, part.get().copy(alloc)?)
 }
 
-/// Another optional data range, the same.
+// Another optional data range, the same.
 pub(crate) fn copy_optional(alloc: Global, range: &Option<Range>) -> Result<Option<Range>, Memory>
     ensures { IfOk result (λ copy. copy ≡ range.now) }
 {

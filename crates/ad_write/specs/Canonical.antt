@@ -131,16 +131,16 @@ annotation_step a = compound kw.Annotation (a.notes ++ canon_iri a.property ∷ 
 unfoldable pub canon_annotation : Annotation → List ℕ
 canon_annotation = fold-Annotation (List ℕ) annotation_step
 
-abbrev pub kind_word : EntityKind → List ℕ
-kind_word kinds.Class = kw.Class
-kind_word kinds.Datatype = kw.Datatype
-kind_word kinds.ObjectProperty = kw.ObjectProperty
-kind_word kinds.DataProperty = kw.DataProperty
-kind_word kinds.AnnotationProperty = kw.AnnotationProperty
-kind_word kinds.NamedIndividual = kw.NamedIndividual
+abbrev pub entity_kind_word : EntityKind → List ℕ
+entity_kind_word kinds.Class = kw.Class
+entity_kind_word kinds.Datatype = kw.Datatype
+entity_kind_word kinds.ObjectProperty = kw.ObjectProperty
+entity_kind_word kinds.DataProperty = kw.DataProperty
+entity_kind_word kinds.AnnotationProperty = kw.AnnotationProperty
+entity_kind_word kinds.NamedIndividual = kw.NamedIndividual
 
 abbrev pub canon_entity : Entity → List ℕ
-canon_entity e = compound (kind_word e.kind) (canon_iri e.name ∷ [])
+canon_entity e = compound (entity_kind_word e.kind) (canon_iri e.name ∷ [])
 
 -- an axiom whose annotations have these texts
 abbrev pub canon_axiom : List (List ℕ) → Axiom → List ℕ

@@ -10,7 +10,7 @@ use crate::spelled::{Spelled, argument, separate};
 use ad_base::Word;
 use ad_tree::{Class, Classes, ObjProp, One, Range};
 
-/// A class expression.
+// A class expression.
 impl Spelled for Class {
     ghost spelling = { canon_class };
 

@@ -6,7 +6,7 @@ use crate::spelled::Spelled;
 use ad_tree::{Facet, Literal};
 use memchr::memchr2;
 
-/// A literal is its quoted text, with its language tag or the IRI of its datatype.
+// A literal is its quoted text, with its language tag or the IRI of its datatype.
 impl Spelled for Literal {
     ghost spelling = { canon_literal };
 
@@ -27,7 +27,7 @@ impl Spelled for Literal {
     }
 }
 
-/// A facet is its IRI and, behind a space, its value.
+// A facet is its IRI and, behind a space, its value.
 impl Spelled for Facet {
     ghost spelling = { canon_facet };
 

@@ -1,5 +1,5 @@
 ghost use Rattle.std.specs.Prelude.{◌≡◌};
-ghost use Rattle.ad_write.specs.Canonical.{canon_anonymous, canon_entity, canon_individual, canon_property, canon_subject, kind_word};
+ghost use Rattle.ad_write.specs.Canonical.{canon_anonymous, canon_entity, canon_individual, canon_property, canon_subject, entity_kind_word};
 
 use crate::keywords;
 use crate::pen::Pen;
@@ -8,7 +8,7 @@ use crate::spelled::Spelled;
 use ad_base::Word;
 use ad_tree::{Entity, EntityKind, Individual, ObjProp, Subject};
 
-/// An object property, or the inverse of a named one.
+// An object property, or the inverse of a named one.
 impl Spelled for ObjProp {
     ghost spelling = { canon_property };
 
@@ -20,7 +20,7 @@ impl Spelled for ObjProp {
     }
 }
 
-/// An individual, named or anonymous.
+// An individual, named or anonymous.
 impl Spelled for Individual {
     ghost spelling = { canon_individual };
 
@@ -32,7 +32,7 @@ impl Spelled for Individual {
     }
 }
 
-/// The subject of an annotation assertion.
+// The subject of an annotation assertion.
 impl Spelled for Subject {
     ghost spelling = { canon_subject };
 
@@ -44,7 +44,7 @@ impl Spelled for Subject {
     }
 }
 
-/// An entity is its kind and, between parentheses, its IRI.
+// An entity is its kind and, between parentheses, its IRI.
 impl Spelled for Entity {
     ghost spelling = { canon_entity };
 
@@ -63,7 +63,7 @@ pub fn write_anonymous<P: Pen>(pen: &mut P, label: &Word)
 
 // The word of a kind of entity.
 fn keyword(kind: EntityKind) -> &'static str
-    ensures { result.now ≡ kind_word kind }
+    ensures { result.now ≡ entity_kind_word kind }
 {
     match kind {
         EntityKind::Class => keywords::CLASS,

@@ -8,7 +8,7 @@ use crate::pen::Pen;
 use crate::spelled::{Spelled, argument, open, separate};
 use ad_tree::{Annotation, Value};
 
-/// An annotation, with its own annotations before its property and its value.
+// An annotation, with its own annotations before its property and its value.
 impl Spelled for Annotation {
     ghost spelling = { canon_annotation };
 
@@ -17,7 +17,7 @@ impl Spelled for Annotation {
     }
 }
 
-/// The value of an annotation: an IRI, an anonymous individual or a literal.
+// The value of an annotation: an IRI, an anonymous individual or a literal.
 impl Spelled for Value {
     ghost spelling = { canon_value };
 

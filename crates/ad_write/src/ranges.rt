@@ -8,7 +8,7 @@ use crate::shapes::{begin, list, one_and_list};
 use crate::spelled::{Spelled, separate};
 use ad_tree::{One, Range, Ranges};
 
-/// A data range.
+// A data range.
 impl Spelled for Range {
     ghost spelling = { canon_range };
 

@@ -15,7 +15,7 @@ pub trait Spelled {
         ensures { P.writes pen.old pen.new (spelling self.now) };
 }
 
-/// A word as a name is an IRI in full.
+// A word as a name is an IRI in full.
 impl Spelled for Word {
     ghost spelling = { canon_iri };
 
@@ -26,7 +26,7 @@ impl Spelled for Word {
     }
 }
 
-/// A number is written in decimal, without leading zeros.
+// A number is written in decimal, without leading zeros.
 impl Spelled for u32 {
     ghost spelling = { decimal };
 

@@ -15,16 +15,16 @@ use ad_check::{Stop, check_axiom, check_document, check_edit, check_seed, nestin
 use ad_lex::{LexRefused, Token, Tokens, tokens};
 use std::alloc::Global;
 
-/// A text of the form that is asked for, whose prefixes are known.
+// A text of the form that is asked for, whose prefixes are known.
 #[derive(Drop)]
 pub(crate) struct Opened {
     pub(crate) tokens: Tokens,
     pub(crate) prefixes: Prefixes,
-    /// The token behind the declarations.
+    // The token behind the declarations.
     pub(crate) behind: usize,
 }
 
-/// Reads a text up to its trees: all that may refuse it is tried here.
+// Reads a text up to its trees: all that may refuse it is tried here.
 pub(crate) fn open(
     alloc: Global,
     text: &[u8],
@@ -44,7 +44,7 @@ pub(crate) fn open(
     }
 }
 
-/// The text behind its declarations, if each prefix there is known.
+// The text behind its declarations, if each prefix there is known.
 fn known(
     text: &[u8],
     tokens: Tokens,
@@ -67,7 +67,7 @@ fn known(
     }
 }
 
-/// The tokens of a text of the form.
+// The tokens of a text of the form.
 fn formed(alloc: Global, text: &[u8], whole: Whole, limits: &Limits) -> Result<Tokens, ReadRefused>
     requires { length text.now < 2 ^ 32 }
     ensures formed { IfOk result (λ tokens. IsFormed (form_of whole) limits.now.depth text.now tokens) }
@@ -81,7 +81,7 @@ fn formed(alloc: Global, text: &[u8], whole: Whole, limits: &Limits) -> Result<T
     }
 }
 
-/// The refusal of a text whose first fault stands here.
+// The refusal of a text whose first fault stands here.
 fn refusal(text: &[u8], tokens: &[Token], stop: Stop) -> ReadRefused
     requires { length text.now < 2 ^ 32 }
     ensures { IsRefusalOf text.now tokens.now stop result }
@@ -93,7 +93,7 @@ fn refusal(text: &[u8], tokens: &[Token], stop: Stop) -> ReadRefused
     }
 }
 
-/// Where the token of this number begins in the text, or the text's length behind the last.
+// Where the token of this number begins in the text, or the text's length behind the last.
 #[tactic(auto, using(crate::proofs::Opening::place_at, crate::proofs::Opening::at_end))]
 fn place(text: &[u8], tokens: &[Token], token: u32) -> u32
     requires { length text.now < 2 ^ 32 }
@@ -108,7 +108,7 @@ fn place(text: &[u8], tokens: &[Token], token: u32) -> u32
     }
 }
 
-/// Compares a text with the grammar of its kind.
+// Compares a text with the grammar of its kind.
 fn check(text: &[u8], tokens: &Tokens, whole: Whole) -> Result<(), Stop>
     requires { AreTokensOf text.now tokens.now }
     ensures ok { IfOk result (λ done. IsOf false (form_of whole) (lexemes text.now tokens.now)) }
@@ -123,7 +123,7 @@ fn check(text: &[u8], tokens: &Tokens, whole: Whole) -> Result<(), Stop>
     }
 }
 
-/// How deep the parentheses of a text of this kind nest; those of the ontology don't count.
+// How deep the parentheses of a text of this kind nest; those of the ontology don't count.
 fn depth(tokens: &Tokens, whole: Whole) -> u32
     ensures { (text : List ℕ) → result ≡ depth (form_of whole) (lexemes text tokens.now) }
 {
@@ -133,7 +133,7 @@ fn depth(tokens: &Tokens, whole: Whole) -> u32
     }
 }
 
-/// The tokens of a text whose nesting is within the limit.
+// The tokens of a text whose nesting is within the limit.
 fn shallow(alloc: Global, text: &[u8], whole: Whole, limits: &Limits) -> Result<Tokens, ReadRefused>
     requires { length text.now < 2 ^ 32 }
     ensures shallow { IfOk result (λ tokens. IsShallow (form_of whole) limits.now.depth text.now tokens) }

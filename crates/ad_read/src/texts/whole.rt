@@ -1,4 +1,4 @@
-/// A kind of whole text.
+// A kind of whole text.
 #[derive(Clone, Copy, Debug, PartialEq, Eq)]
 pub(crate) enum Whole {
     Document,
