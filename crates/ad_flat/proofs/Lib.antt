@@ -1,4 +1,5 @@
 pub mod FreeLemmas
+pub mod KeyLemmas
 pub mod ListLemmas
 pub mod SlotLemmas
 pub mod NumberLemmas

@@ -6,6 +6,7 @@ ghost use Rattle.ad_signature.specs.Numbering.{number_in};
 ghost use Rattle.ad_slots.specs.Places.{slot_at, least_free};
 ghost use Rattle.ad_flat.specs.Holds.{Holds};
 ghost use Rattle.ad_flat.specs.Refused.{IsRefusedForOneOf};
+ghost use Rattle.ad_flat.specs.Universes.{held_in, most_in, symbols_in};
 
 use crate::flat::FlatUniverse;
 use ad_base::Memory;
@@ -35,19 +36,19 @@ pub fn add(
     symbols: &mut Symbols,
     noted: &Noted,
 ) -> Result<u32, SymbolRefused>
-    requires room { least_free universe.old.slots.entries.items < universe.old.slots.most }
-    requires limit { symbols.old.limit ≤ universe.old.slots.symbols }
-    ensures next { IfOk result (λ i. i ≡ least_free universe.old.slots.entries.items) }
-    ensures held { IfOk result (λ i. Holds (number_in symbols.new.names) universe.new.slots.entries.items i noted.now.axiom) }
-    ensures others { IfOk result (λ i. (j : ℕ) → j ≢ i → slot_at universe.new.slots.entries.items j ≡ slot_at universe.old.slots.entries.items j) }
-    ensures err { OnErr result (universe.new.slots.entries.items ≡ universe.old.slots.entries.items) }
+    requires room { least_free (held_in universe.old) < most_in universe.old }
+    requires limit { symbols.old.limit ≤ symbols_in universe.old }
+    ensures next { IfOk result (λ i. i ≡ least_free (held_in universe.old)) }
+    ensures held { IfOk result (λ i. Holds (number_in symbols.new.names) (held_in universe.new) i noted.now.axiom) }
+    ensures others { IfOk result (λ i. (j : ℕ) → j ≢ i → slot_at (held_in universe.new) j ≡ slot_at (held_in universe.old) j) }
+    ensures err { OnErr result (held_in universe.new ≡ held_in universe.old) }
     ensures named { OnOk result ((e : Entity) → IsTrue (in_signature noted.now.axiom e) → IsSome (number_in symbols.new.names e)) }
     ensures refused { IfErr result (IsRefusedForOneOf (in_signature noted.now.axiom) symbols.old.limit symbols.new.names) }
     ensures only { (e : Entity) → IsFalse (in_signature noted.now.axiom e) → number_in symbols.new.names e ≡ number_in symbols.old.names e }
     ensures kept { (e : Entity) (n : ℕ) → number_in symbols.old.names e ≡ Some n → number_in symbols.new.names e ≡ Some n }
     ensures limit { symbols.new.limit ≡ symbols.old.limit }
-    ensures slots { universe.new.slots.most ≡ universe.old.slots.most }
-    ensures symbols { universe.new.slots.symbols ≡ universe.old.slots.symbols }
+    ensures slots { most_in universe.new ≡ most_in universe.old }
+    ensures symbols { symbols_in universe.new ≡ symbols_in universe.old }
 {
     let entities = match signature(alloc, noted) {
         Ok(entities) => entities,

@@ -5,6 +5,7 @@ ghost use Rattle.ad_cells.proofs.StackLemmas as codes;
 ghost use Rattle.ad_slots.proofs.PlaceLemmas as laws;
 ghost use Rattle.ad_flat.specs.Holds.{Holds, IsNumberedBelow};
 ghost use Rattle.ad_flat.specs.Laws as own;
+ghost use Rattle.ad_flat.specs.Universes.{held_in, most_in, symbols_in};
 
 use crate::axioms::slot_of;
 use crate::slots::Slots;
@@ -24,9 +25,9 @@ impl FlatUniverse {
     /// The universe without axioms, for as many axioms and entities as the limits allow.
     pub fn empty(alloc: Global, limits: &Limits) -> Result<FlatUniverse, Memory>
         requires { AreWithinStandard limits.now }
-        ensures slots { IfOk result (λ universe. universe.slots.most ≡ limits.now.axioms) }
-        ensures symbols { IfOk result (λ universe. universe.slots.symbols ≡ limits.now.entities) }
-        ensures empty { IfOk result (λ universe. universe.slots.entries.items ≡ []) }
+        ensures slots { IfOk result (λ universe. most_in universe ≡ limits.now.axioms) }
+        ensures symbols { IfOk result (λ universe. symbols_in universe ≡ limits.now.entities) }
+        ensures empty { IfOk result (λ universe. held_in universe ≡ []) }
     {
         Ok(FlatUniverse {
             slots: Slots::new(alloc, limits)?,
@@ -35,7 +36,7 @@ impl FlatUniverse {
 
     /// The least free slot; if it is past all slots that there are, none is free.
     pub fn next(&self) -> usize
-        ensures { result ≡ least_free self.now.slots.entries.items }
+        ensures { result ≡ least_free (held_in self.now) }
     {
         self.slots.next()
     }
@@ -48,14 +49,14 @@ impl FlatUniverse {
         noted: &Noted,
         names: &N,
     ) -> Result<u32, Memory>
-        requires room { least_free self.old.slots.entries.items < self.old.slots.most }
-        requires named { IsNumberedBelow self.old.slots.symbols (N.number_of names.now) noted.now.axiom }
-        ensures next { IfOk result (λ i. i ≡ least_free self.old.slots.entries.items) }
-        ensures held { IfOk result (λ i. Holds (N.number_of names.now) self.new.slots.entries.items i noted.now.axiom) }
-        ensures others { IfOk result (λ i. (j : ℕ) → j ≢ i → slot_at self.new.slots.entries.items j ≡ slot_at self.old.slots.entries.items j) }
-        ensures err { OnErr result (self.new.slots.entries.items ≡ self.old.slots.entries.items) }
-        ensures slots { self.new.slots.most ≡ self.old.slots.most }
-        ensures symbols { self.new.slots.symbols ≡ self.old.slots.symbols }
+        requires room { least_free (held_in self.old) < most_in self.old }
+        requires named { IsNumberedBelow (symbols_in self.old) (N.number_of names.now) noted.now.axiom }
+        ensures next { IfOk result (λ i. i ≡ least_free (held_in self.old)) }
+        ensures held { IfOk result (λ i. Holds (N.number_of names.now) (held_in self.new) i noted.now.axiom) }
+        ensures others { IfOk result (λ i. (j : ℕ) → j ≢ i → slot_at (held_in self.new) j ≡ slot_at (held_in self.old) j) }
+        ensures err { OnErr result (held_in self.new ≡ held_in self.old) }
+        ensures slots { most_in self.new ≡ most_in self.old }
+        ensures symbols { symbols_in self.new ≡ symbols_in self.old }
     {
         let slot = slot_of(alloc, noted, names)?;
         let nothing = empty_row(alloc, 0)?;
@@ -69,19 +70,19 @@ impl FlatUniverse {
 
     /// Frees a slot that holds an axiom. It takes no memory.
     pub fn remove(&mut self, i: u32)
-        requires { IsTrue (is_held self.old.slots.entries.items i) }
-        ensures freed { IsReplaced i None self.old.slots.entries.items self.new.slots.entries.items }
-        ensures slots { self.new.slots.most ≡ self.old.slots.most }
-        ensures symbols { self.new.slots.symbols ≡ self.old.slots.symbols }
+        requires { IsTrue (is_held (held_in self.old) i) }
+        ensures freed { IsReplaced i None (held_in self.old) (held_in self.new) }
+        ensures slots { most_in self.new ≡ most_in self.old }
+        ensures symbols { symbols_in self.new ≡ symbols_in self.old }
     {
         self.slots.remove(i);
     }
 
     /// The same universe once more. It shares axioms with this one.
     pub fn copy(&self, alloc: Global) -> Result<FlatUniverse, Memory>
-        ensures entries { IfOk result (λ copy. copy.slots.entries.items ≡ self.now.slots.entries.items) }
-        ensures slots { IfOk result (λ copy. copy.slots.most ≡ self.now.slots.most) }
-        ensures symbols { IfOk result (λ copy. copy.slots.symbols ≡ self.now.slots.symbols) }
+        ensures entries { IfOk result (λ copy. held_in copy ≡ held_in self.now) }
+        ensures slots { IfOk result (λ copy. most_in copy ≡ most_in self.now) }
+        ensures symbols { IfOk result (λ copy. symbols_in copy ≡ symbols_in self.now) }
     {
         Ok(FlatUniverse {
             slots: self.slots.copy(alloc)?,
@@ -90,19 +91,19 @@ impl FlatUniverse {
 }
 
 impl Universe for FlatUniverse {
-    ghost slot_count = { λ u. u.slots.most };
+    ghost slot_count = { λ u. most_in u };
 
-    ghost symbol_count = { λ u. u.slots.symbols };
+    ghost symbol_count = { λ u. symbols_in u };
 
-    ghost is_live = { λ u. is_held u.slots.entries.items };
+    ghost is_live = { λ u. is_held (held_in u) };
 
-    ghost symbols_of = { λ u. held_symbols u.slots.entries.items };
+    ghost symbols_of = { λ u. held_symbols (held_in u) };
 
-    ghost slots_of = { λ u. held_slots u.slots.entries.items };
+    ghost slots_of = { λ u. held_slots (held_in u) };
 
-    ghost globals_of = { λ u. held_globals u.slots.entries.items };
+    ghost globals_of = { λ u. held_globals (held_in u) };
 
-    ghost is_local = { λ u. is_held_local u.slots.entries.items };
+    ghost is_local = { λ u. is_held_local (held_in u) };
 
     ghost small = { λ u. (u.slots.few_slots, u.slots.few_symbols) };
 
@@ -110,11 +111,11 @@ impl Universe for FlatUniverse {
 
     ghost symbols_below = { λ u i s live t. own.symbols_below u.slots i s t };
 
-    ghost occurrences = { λ u. laws.occurrences u.slots.entries.items };
+    ghost occurrences = { λ u. laws.occurrences (held_in u) };
 
-    ghost globals = { λ u. laws.globals u.slots.entries.items };
+    ghost globals = { λ u. laws.globals (held_in u) };
 
-    ghost antitone = { λ u side. laws.antitone codes.codes_shrink u.slots.entries.items side u.slots.covered };
+    ghost antitone = { λ u side. laws.antitone codes.codes_shrink (held_in u) side u.slots.covered };
 
     fn slots(&self) -> u32 {
         self.slots.most()

@@ -158,8 +158,8 @@ pub(crate) fn enter_if(list: &mut Vec<u32>, is_there: bool, n: u32)
     }
 }
 
-// Another list of the same numbers.
-pub(crate) fn copy_list(alloc: Global, list: &[u32]) -> Result<Vec<u32>, Memory>
+// Another list of the same.
+pub(crate) fn copy_list<T: Copy>(alloc: Global, list: &[T]) -> Result<Vec<T>, Memory>
     ensures { IfOk result (λ copy. copy.items ≡ list.now) }
 {
     let mut copy = Vec::with_capacity(alloc, list.len())?;

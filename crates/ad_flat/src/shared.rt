@@ -5,7 +5,7 @@ ghost use Rattle.ad_slots.specs.Held.{Held};
 
 use ad_base::Memory;
 use ad_slots::Slot;
-use std::alloc::Global;
+use std::alloc::{AllocError, Global};
 use std::marker::Model;
 use std::sync::Arc;
 
@@ -27,6 +27,17 @@ impl Model for Entry {
     ghost view = { λ e. arc_value e.slot };
 }
 
+// The same axiom once more.
+impl Clone for Entry {
+    ghost is_clone = { λ entry copy. copy ≡ entry };
+
+    fn clone(&self) -> Result<Entry, AllocError> {
+        Ok(Entry {
+            slot: self.slot.clone()?,
+        })
+    }
+}
+
 impl Entry {
     pub(crate) fn new(alloc: Global, slot: Slot) -> Result<Entry, Memory>
         ensures { IfOk result (λ entry. entry ≡ slot) }
@@ -35,15 +46,6 @@ impl Entry {
             Ok(slot) => Ok(Entry { slot }),
             Err(_) => Err(Memory),
         }
-    }
-
-    // The same axiom once more.
-    pub(crate) fn share(&self) -> Result<Entry, Memory>
-        ensures { IfOk result (λ entry. entry ≡ self.now) }
-    {
-        Ok(Entry {
-            slot: Arc::try_clone(&self.slot)?,
-        })
     }
 
     pub(crate) fn slot(&self) -> &Slot

@@ -9,7 +9,7 @@ ghost use Rattle.ad_slots.specs.Places.{slot_at, is_held, held_slots, held_symbo
 ghost use Rattle.ad_flat.specs.Changes.{list_at, list_of};
 ghost use Rattle.ad_flat.specs.Free.{AreFree};
 
-use crate::entries::{free, hold, share_entries, symbols_of};
+use crate::entries::Entries;
 use crate::lists::{copy_list, copy_lists, enter_each, enter_if, leave_each, make_room};
 use crate::rows::{copy_row, full_row};
 use crate::shared::Entry;
@@ -27,7 +27,7 @@ pub(crate) struct Slots {
     most: u32,
     symbols: u32,
     // what each slot holds; those past the end are free
-    entries: Vec<Option<Entry>>,
+    entries: Entries,
     // the free slots
     free: Row,
     // for each symbol the slots in whose signatures it stands; those past the end stand in none
@@ -37,14 +37,14 @@ pub(crate) struct Slots {
     top: Vec<u32>,
     ghost few_slots: { most ≤ 65536 },
     ghost few_symbols: { symbols ≤ 65536 },
-    ghost within: { vec_len entries ≤ most },
-    ghost are_free: { AreFree most entries.items free },
+    ghost within: { length entries ≤ most },
+    ghost are_free: { AreFree most entries free },
     ghost lists_within: { vec_len occurrences ≤ symbols },
-    ghost below: { AreHeldBelow (vec_len occurrences) entries.items },
-    ghost covered: { AreCovered entries.items },
-    ghost indexed: { (s : ℕ) → list_of occurrences.items s ≡ held_slots entries.items s },
-    ghost bottom_globals: { bottom.items ≡ held_globals entries.items sides.Bottom },
-    ghost top_globals: { top.items ≡ held_globals entries.items sides.Top },
+    ghost below: { AreHeldBelow (vec_len occurrences) entries },
+    ghost covered: { AreCovered entries },
+    ghost indexed: { (s : ℕ) → list_of occurrences.items s ≡ held_slots entries s },
+    ghost bottom_globals: { bottom.items ≡ held_globals entries sides.Bottom },
+    ghost top_globals: { top.items ≡ held_globals entries sides.Top },
 }
 
 impl Slots {
@@ -54,13 +54,13 @@ impl Slots {
         requires entities { limits.now.entities ≤ 65536 }
         ensures most { IfOk result (λ slots. slots.most ≡ limits.now.axioms) }
         ensures symbols { IfOk result (λ slots. slots.symbols ≡ limits.now.entities) }
-        ensures empty { IfOk result (λ slots. slots.entries.items ≡ []) }
+        ensures empty { IfOk result (λ slots. slots.entries ≡ []) }
     {
         let free = full_row(alloc, limits.axioms)?;
         Ok(Slots {
             most: limits.axioms,
             symbols: limits.entities,
-            entries: Vec::new(alloc),
+            entries: Entries::new(alloc),
             free,
             occurrences: Vec::new(alloc),
             bottom: Vec::new(alloc),
@@ -70,7 +70,7 @@ impl Slots {
 
     // The least free slot.
     pub(crate) fn next(&self) -> usize
-        ensures { result ≡ least_free self.now.entries.items }
+        ensures { result ≡ least_free self.now.entries }
     {
         match self.free.next(0) {
             Some(i) => i as usize,
@@ -78,19 +78,17 @@ impl Slots {
         }
     }
 
-    // Takes the memory that one more axiom with these symbols needs.
+    // Takes the memory that the lists need for one more axiom with these symbols.
     fn reserve(&mut self, alloc: Global, symbols: &[u32]) -> Result<(), Memory>
         requires { (s : ℕ) → IsTrue (among symbols.now s) → s < self.old.symbols }
-        ensures entries { self.new.entries.items ≡ self.old.entries.items }
+        ensures entries { self.new.entries ≡ self.old.entries }
         ensures most { self.new.most ≡ self.old.most }
         ensures symbols { self.new.symbols ≡ self.old.symbols }
         ensures lists { OnOk result ((s : ℕ) → IsTrue (among symbols.now s) → s < vec_len self.new.occurrences) }
         ensures places { OnOk result ((s : ℕ) → IsTrue (among symbols.now s) → HasRoomFor (list_at self.new.occurrences.items s) 1) }
-        ensures room { OnOk result (vec_len self.new.entries < vec_capacity self.new.entries) }
         ensures bottom { OnOk result (vec_len self.new.bottom < vec_capacity self.new.bottom) }
         ensures top { OnOk result (vec_len self.new.top < vec_capacity self.new.top) }
     {
-        self.entries.reserve(1)?;
         self.bottom.reserve(1)?;
         self.top.reserve(1)?;
         make_room(alloc, &mut self.occurrences, symbols)
@@ -105,46 +103,47 @@ impl Slots {
         is_bottom_global: bool,
         is_top_global: bool,
     ) -> Result<(), Memory>
-        requires vacant { IsFalse (is_held self.old.entries.items i) }
-        requires next { i ≤ vec_len self.old.entries }
+        requires vacant { IsFalse (is_held self.old.entries i) }
+        requires next { i ≤ length self.old.entries }
         requires within { i < self.old.most }
         requires below { (s : ℕ) → IsTrue (among slot.symbols s) → s < self.old.symbols }
         requires covered { IsCovered slot.code slot.symbols }
         requires bottom { is_bottom_global ≡ is_global sides.Bottom (Some slot) }
         requires top { is_top_global ≡ is_global sides.Top (Some slot) }
-        ensures ok { OnOk result (IsReplaced i (Some slot) self.old.entries.items self.new.entries.items) }
-        ensures err { OnErr result (self.new.entries.items ≡ self.old.entries.items) }
+        ensures ok { OnOk result (IsReplaced i (Some slot) self.old.entries self.new.entries) }
+        ensures err { OnErr result (self.new.entries ≡ self.old.entries) }
         ensures most { self.new.most ≡ self.old.most }
         ensures symbols { self.new.symbols ≡ self.old.symbols }
     {
         self.reserve(alloc, slot.symbols())?;
         let entry = Entry::new(alloc, slot)?;
-        enter_each(&mut self.occurrences, entry.slot().symbols(), i);
+        self.entries.hold(i as usize, entry)?;
+        let symbols = self.entries.symbols(i as usize);
+        enter_each(&mut self.occurrences, symbols, i);
         enter_if(&mut self.bottom, is_bottom_global, i);
         enter_if(&mut self.top, is_top_global, i);
-        hold(&mut self.entries, i as usize, entry);
         self.free.unset(i);
         Ok(())
     }
 
     // Frees a slot.
     pub(crate) fn remove(&mut self, i: u32)
-        requires { IsTrue (is_held self.old.entries.items i) }
-        ensures freed { IsReplaced i None self.old.entries.items self.new.entries.items }
+        requires { IsTrue (is_held self.old.entries i) }
+        ensures freed { IsReplaced i None self.old.entries self.new.entries }
         ensures most { self.new.most ≡ self.old.most }
         ensures symbols { self.new.symbols ≡ self.old.symbols }
     {
-        let symbols = symbols_of(self.entries.as_slice(), i as usize);
+        let symbols = self.entries.symbols(i as usize);
         leave_each(&mut self.occurrences, symbols, i);
         drop_from(&mut self.bottom, i);
         drop_from(&mut self.top, i);
-        free(&mut self.entries, i as usize);
+        self.entries.free(i as usize);
         self.free.set(i);
     }
 
     // The same slots once more, which share axioms.
     pub(crate) fn copy(&self, alloc: Global) -> Result<Slots, Memory>
-        ensures entries { IfOk result (λ copy. copy.entries.items ≡ self.now.entries.items) }
+        ensures entries { IfOk result (λ copy. copy.entries ≡ self.now.entries) }
         ensures most { IfOk result (λ copy. copy.most ≡ self.now.most) }
         ensures symbols { IfOk result (λ copy. copy.symbols ≡ self.now.symbols) }
     {
@@ -153,7 +152,7 @@ impl Slots {
         Ok(Slots {
             most: self.most,
             symbols: self.symbols,
-            entries: share_entries(alloc, self.entries.as_slice())?,
+            entries: self.entries.copy(alloc)?,
             free,
             occurrences,
             bottom,
@@ -193,24 +192,21 @@ impl Slots {
 
     // What a slot holds.
     pub(crate) fn get(&self, i: u32) -> Option<&Slot>
-        ensures { option_copied result ≡ slot_at self.now.entries.items i }
+        ensures { option_copied result ≡ slot_at self.now.entries i }
     {
-        match self.entries.get(i as usize) {
-            Some(Some(entry)) => Some(entry.slot()),
-            _ => None,
-        }
+        self.entries.get(i as usize)
     }
 
     // The symbols of a slot.
     pub(crate) fn signature(&self, i: u32) -> &[u32]
-        ensures { result.now ≡ held_symbols self.now.entries.items i }
+        ensures { result.now ≡ held_symbols self.now.entries i }
     {
-        symbols_of(self.entries.as_slice(), i as usize)
+        self.entries.symbols(i as usize)
     }
 
     // The slots in whose signatures the symbol stands.
     pub(crate) fn occurs(&self, s: u32) -> &[u32]
-        ensures { result.now ≡ held_slots self.now.entries.items s }
+        ensures { result.now ≡ held_slots self.now.entries s }
     {
         match self.occurrences.get(s as usize) {
             Some(list) => list.as_slice(),
@@ -220,7 +216,7 @@ impl Slots {
 
     // The slots that are not local for nothing.
     pub(crate) fn global(&self, side: Side) -> &[u32]
-        ensures { result.now ≡ held_globals self.now.entries.items side }
+        ensures { result.now ≡ held_globals self.now.entries side }
     {
         match side {
             Side::Bottom => self.bottom.as_slice(),

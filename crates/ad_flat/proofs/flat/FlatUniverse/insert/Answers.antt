@@ -6,12 +6,12 @@ use Rattle.ad_flat.proofs.NumberLemmas.{entity_of}
 use Rattle.ad_flat.proofs.flat.FlatUniverse.insert.Goals as goal
 
 pub put-requires-clause-vacant : goal.put-requires-clause-vacant
-put-requires-clause-vacant g c = ap (is_held c.args.self.now.slots.entries.items) c.next-i.ensures ∙ least_is_free c.args.self.now.slots.entries.items
+put-requires-clause-vacant g c = ap (is_held c.args.self.now.slots.entries) c.next-i.ensures ∙ least_is_free c.args.self.now.slots.entries
 
 pub put-requires-clause-next : goal.put-requires-clause-next
 put-requires-clause-next g c =
-    let l : least_free c.args.self.now.slots.entries.items ≤ length c.args.self.now.slots.entries.items = least_within c.args.self.now.slots.entries.items in
-    omega (arith, c.next-i.ensures, c.args.self.now.slots.entries.ok)
+    let l : least_free c.args.self.now.slots.entries ≤ length c.args.self.now.slots.entries = least_within c.args.self.now.slots.entries in
+    omega (arith, c.next-i.ensures)
 
 pub put-requires-clause-below : goal.put-requires-clause-below
 put-requires-clause-below g c = λ s t.
