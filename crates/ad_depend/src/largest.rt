@@ -20,6 +20,7 @@ fn next_largest(sizes: &Sizes, left: &Row, largest: &mut Row) -> Option<u32>
     ensures some { IfSome result (IsLargestOf (slice_index sizes.now) left.now) }
     ensures none { IfNone result ((k : ℕ) → IsFalse (has left.now k)) }
 {
+    left.next(0)?;
     largest.copy_from(left);
     sizes.keep_largest(largest);
     largest.next(0)

@@ -12,6 +12,6 @@ some_weaker (Some m) P Q f h = f m h
 
 pub returns-clause-some : goal.returns-clause-some
 returns-clause-some c =
-    some_weaker c.next.result (IsLeastFrom c.keep_largest.new.members 0) (IsLargestOf (slice_index c.args.sizes.now) c.args.left.now)
+    some_weaker c.next-2.result (IsLeastFrom c.keep_largest.new.members 0) (IsLargestOf (slice_index c.args.sizes.now) c.args.left.now)
     (λ m least. largest_one (slice_index c.args.sizes.now) c.args.left.now c.copy_from.new.self c.keep_largest.new.members c.copy_from.ensures c.keep_largest.ensures.largest m least.member)
-    c.next.ensures.some
+    c.next-2.ensures.some
