@@ -5,12 +5,13 @@ use Rattle.ad_io.specs.Sink.{Puts}
 use Rattle.ad_io.specs.declared.writes.Wrote.{Wrote}
 use Rattle.ad_io.specs.declared.writes.Wrote.TheVariants as wrote
 use Rattle.ad_io.proofs.FlowLemmas.{goes_on, stops, stops_early}
+use Rattle.ad_lines.specs.Lines.{behind, line_of}
 use Rattle.ad_read.specs.declared.texts.ReadRefused.TheVariants as texts
 use Rattle.ad_reply.specs.declared.refusal.Refusal.{Refusal}
 use Rattle.ad_reply.specs.declared.refusal.Refusal.TheVariants as refusals
 use Rattle.ad_reply.specs.declared.cause.Cause.{Cause}
 use Rattle.ad_reply.specs.Causes.{number_word}
-use Rattle.ad_reply.specs.Replies.{Reply, answered, answer_line, behind, cause_of, cause_words, details, line_of, refused, reply_bytes, words_of}
+use Rattle.ad_reply.specs.Replies.{Reply, answered, answer_line, cause_of, cause_words, details, refused, reply_bytes, words_of}
 
 joins : (line body : List ℕ) (old mid new : Option (List ℕ)) (w : Wrote) → Gains old mid line → Puts mid new w body → Puts old new w (line ++ body)
 joins line body old mid new wrote.All first then_ = goes_on old mid new line body first then_

@@ -1,7 +1,7 @@
 -- The four counts of an edit, each as its digits.
 use Rattle.std.specs.Prelude.{ℕ, List, [], ◌∷◌, codes, decimal}
 use Rattle.ad_edition.specs.declared.receipts.Receipt.{Receipt}
-use Rattle.ad_reply.specs.Replies.{line_of}
+use Rattle.ad_lines.specs.Lines.{line_of}
 
 pub record Counted : Type 0 where
   pub added : List ℕ

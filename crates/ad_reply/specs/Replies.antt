@@ -6,6 +6,7 @@ use Rattle.ad_check.specs.declared.texts.Unsupported.{Unsupported}
 use Rattle.ad_check.specs.declared.texts.Unsupported.TheVariants as parts
 use Rattle.ad_lex.specs.declared.token.LexFault.{LexFault}
 use Rattle.ad_lex.specs.declared.token.LexFault.TheVariants as faults
+use Rattle.ad_lines.specs.Lines.{line_of}
 use Rattle.ad_read.specs.declared.texts.ReadRefused.{ReadRefused}
 use Rattle.ad_read.specs.declared.texts.ReadRefused.TheVariants as texts
 use Rattle.ad_write.specs.Keywords as kw
@@ -46,16 +47,6 @@ which_word limits.Entities = codes "entities"
 which_word limits.Bytes = codes "bytes"
 which_word limits.Editions = codes "editions"
 which_word limits.Payload = codes "payload"
-
--- words behind others on a line: a space before each, and a line feed
-abbrev pub behind : List (List ℕ) → List ℕ
-behind [] = 10 ∷ []
-behind (word ∷ words) = 32 ∷ word ++ behind words
-
--- words with one space between them, and a line feed
-abbrev pub line_of : List (List ℕ) → List ℕ
-line_of [] = 10 ∷ []
-line_of (word ∷ words) = word ++ behind words
 
 -- the line before a body: the number of the edition, and how many bytes the body has
 abbrev pub answer_line : ℕ → ℕ → List ℕ

@@ -7,10 +7,10 @@ ghost use Rattle.ad_reply.specs.Written.{PutsModule};
 ghost use Rattle.ad_syntax_laws.specs.OntologyModule.{axioms_of};
 
 use crate::counts::CountsText;
-use crate::decimal::Decimal;
 use ad_base::{Memory, Side};
 use ad_edition::{Edition, Receipt};
 use ad_io::{Sink, Wrote, put_each};
+use ad_lines::Decimal;
 use ad_sweep::document_of;
 use ad_tree::{Noted, Op, Seed};
 use ad_write::{EMPTY_DOCUMENT, document_length, size, write_document};

@@ -1,9 +1,9 @@
 ghost use Rattle.std.specs.Prelude.{◌≡◌, length};
 ghost use Rattle.ad_io.specs.Sink.{Puts, PutCause};
 
-use crate::decimal::Decimal;
 use ad_edition::Receipt;
 use ad_io::{Sink, Wrote, put_each};
+use ad_lines::Decimal;
 use std::marker::Model;
 
 // How many bytes the words between the counts have, with the spaces and the line feed.

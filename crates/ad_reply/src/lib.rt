@@ -8,5 +8,4 @@ pub use refusal::{Refusal, explain, refuse};
 mod answers;
 mod cause;
 mod counts;
-mod decimal;
 mod refusal;

@@ -1,12 +1,13 @@
 ghost use Rattle.std.specs.Prelude.{◌≡◌, ◌∷◌, [], Some, decimal};
 ghost use Rattle.ad_io.specs.Sink.{Puts, PutCause};
-ghost use Rattle.ad_reply.specs.Replies.{behind, cause_of, cause_words, details, fault_place, line_of, refused, reply_bytes, unread_text, unsupported_word, which_word};
+ghost use Rattle.ad_lines.specs.Lines.{behind, line_of};
+ghost use Rattle.ad_reply.specs.Replies.{cause_of, cause_words, details, fault_place, refused, reply_bytes, unread_text, unsupported_word, which_word};
 
 use crate::cause::Cause;
-use crate::decimal::Decimal;
 use ad_base::Which;
 use ad_io::{Sink, Wrote, put_all, put_each};
 use ad_lex::LexFault;
+use ad_lines::Decimal;
 use ad_read::{ReadRefused, Unsupported};
 use ad_write::keywords;
 

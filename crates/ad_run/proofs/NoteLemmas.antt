@@ -5,10 +5,11 @@ use Rattle.ad_io.specs.Sink.{Puts}
 use Rattle.ad_io.specs.declared.writes.Wrote.{Wrote}
 use Rattle.ad_io.specs.declared.writes.Wrote.TheVariants as wrote
 use Rattle.ad_io.proofs.FlowLemmas.{goes_on, stops, stops_early}
+use Rattle.ad_lines.specs.Lines.{line_of}
 use Rattle.ad_read.specs.declared.texts.ReadRefused.TheVariants as texts
 use Rattle.ad_reply.specs.declared.refusal.Refusal.{Refusal}
 use Rattle.ad_reply.specs.declared.refusal.Refusal.TheVariants as refusals
-use Rattle.ad_reply.specs.Replies.{cause_words, line_of, refused}
+use Rattle.ad_reply.specs.Replies.{cause_words, refused}
 use Rattle.ad_run.specs.Notes.{note}
 
 -- the note of a document that is refused for this cause

@@ -2,7 +2,8 @@
 use Rattle.std.specs.Prelude.{◌≡◌, ℕ, List, [], ◌∷◌, Option, codes}
 use Rattle.ad_io.specs.Sink.{Puts, PutCause}
 use Rattle.ad_io.specs.declared.writes.Wrote.{Wrote}
-use Rattle.ad_reply.specs.Replies.{cause_words, line_of, refused}
+use Rattle.ad_lines.specs.Lines.{line_of}
+use Rattle.ad_reply.specs.Replies.{cause_words, refused}
 use Rattle.ad_session.specs.Flows.{Flow}
 use Rattle.ad_run.specs.declared.status.Status.{Status}
 use Rattle.ad_run.specs.declared.status.Status.TheVariants.{Done, Usage, Refused, Cut, TooLong, Spent, ReadFault, WriteFault, Memory}

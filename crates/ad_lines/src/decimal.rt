@@ -3,9 +3,9 @@ ghost use Rattle.std.specs.Prelude.{◌≡◌, ◌≤◌, decimal, length};
 use ad_base::digits;
 use std::marker::Model;
 
-// A number in decimal, which contracts see as its digits.
+/// A number in decimal, which contracts see as its digits.
 #[derive(Drop)]
-pub(crate) struct Decimal {
+pub struct Decimal {
     digits: [u8; 20],
     count: u8,
 }
@@ -21,7 +21,8 @@ impl Model for Decimal {
 }
 
 impl Decimal {
-    pub(crate) fn of(n: u64) -> Decimal
+    /// The number, without leading zeros.
+    pub fn of(n: u64) -> Decimal
         ensures { result ≡ decimal n }
     {
         let mut text = [0; 20];
@@ -32,14 +33,15 @@ impl Decimal {
         }
     }
 
-    pub(crate) fn as_bytes(&self) -> &[u8]
+    /// The digits, as they are written.
+    pub fn as_bytes(&self) -> &[u8]
         ensures { result.now ≡ self.now }
     {
         &self.digits[..self.count as usize]
     }
 
-    // How many digits there are.
-    pub(crate) fn len(&self) -> u64
+    /// How many digits there are.
+    pub fn len(&self) -> u64
         ensures count { result ≡ length self.now }
         ensures within { result ≤ 20 }
     {
