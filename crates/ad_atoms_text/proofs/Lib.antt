@@ -1,0 +1,4 @@
+pub mod MemberLemmas
+pub mod LineLemmas
+pub mod ShapeLemmas
+pub mod LengthLemmas

@@ -1,0 +1,2 @@
+pub mod AtomsText
+pub mod Numbered

@@ -1,0 +1,4 @@
+mod BesideLemmas
+mod GenuineLemmas
+mod ShapeLemmas
+mod ExistenceLemmas
