@@ -1,5 +1,6 @@
 //! Genuine modules of small ontologies.
 ghost use Rattle.std.specs.Prelude.{◌≡◌};
+ghost use Rattle.ad_flat.specs.Universes.{most_in, symbols_in};
 
 use crate::universe::{MOST, limits, universe_of};
 use ad_base::{Kind, Limits, Memory};
@@ -41,8 +42,8 @@ fn found(
     alloc: Global,
     universe: &FlatUniverse,
 ) -> Result<(Rows, u64), Memory>
-    requires slots { universe.now.slots.most ≡ MOST }
-    requires symbols { universe.now.slots.symbols ≡ MOST }
+    requires slots { most_in universe.now ≡ MOST }
+    requires symbols { symbols_in universe.now ≡ MOST }
 {
     let mut tally = Tally::new();
     let rows = scratch::<FlatUniverse, Starred<Queue>>(rt, alloc, universe, &limits(), &mut tally)?;

@@ -1,6 +1,7 @@
 //! Ontologies as numbered axioms.
 ghost use Rattle.std.specs.Prelude.{◌≡◌, IfOk};
 ghost use Rattle.ad_base.specs.Limits.{AreWithinStandard};
+ghost use Rattle.ad_flat.specs.Universes.{most_in, symbols_in};
 
 use ad_base::Limits;
 use ad_flat::{FlatUniverse, add};
@@ -31,11 +32,11 @@ fn put(
     symbols: &mut Symbols,
     noted: &Noted,
 ) -> Result<(), Fail>
-    requires slots { universe.old.slots.most ≡ MOST }
-    requires symbols { universe.old.slots.symbols ≡ MOST }
+    requires slots { most_in universe.old ≡ MOST }
+    requires symbols { symbols_in universe.old ≡ MOST }
     requires limit { symbols.old.limit ≡ MOST }
-    ensures slots { universe.new.slots.most ≡ MOST }
-    ensures symbols { universe.new.slots.symbols ≡ MOST }
+    ensures slots { most_in universe.new ≡ MOST }
+    ensures symbols { symbols_in universe.new ≡ MOST }
     ensures limit { symbols.new.limit ≡ MOST }
 {
     if universe.next() >= MOST as usize {
@@ -51,8 +52,8 @@ pub(crate) fn universe_of(
     keys: RandomState,
     axioms: &[Op],
 ) -> Result<FlatUniverse, Fail>
-    ensures slots { IfOk result (λ universe. universe.slots.most ≡ MOST) }
-    ensures symbols { IfOk result (λ universe. universe.slots.symbols ≡ MOST) }
+    ensures slots { IfOk result (λ universe. most_in universe ≡ MOST) }
+    ensures symbols { IfOk result (λ universe. symbols_in universe ≡ MOST) }
 {
     let mut symbols = Symbols::new(alloc, keys, MOST)?;
     let mut universe = FlatUniverse::empty(alloc, &limits())?;

@@ -1,6 +1,7 @@
 //! Ontologies as numbered axioms, and their modules by the queue and by alternation.
 ghost use Rattle.std.specs.Prelude.{◌≡◌, ◌<◌, IfOk, length};
 ghost use Rattle.ad_base.specs.Limits.{AreWithinStandard};
+ghost use Rattle.ad_flat.specs.Universes.{most_in, symbols_in};
 
 use ad_base::{Kind, Limits, Memory, Side};
 use ad_bits::Row;
@@ -33,8 +34,8 @@ fn limits() -> Limits
 pub(crate) struct Numbered {
     universe: FlatUniverse,
     symbols: Symbols,
-    ghost slots: { universe.slots.most ≡ 32 },
-    ghost entities: { universe.slots.symbols ≡ 32 },
+    ghost slots: { most_in universe ≡ 32 },
+    ghost entities: { symbols_in universe ≡ 32 },
     ghost limit: { symbols.limit ≡ 32 },
 }
 
