@@ -1,0 +1,4 @@
+pub mod EnteringLemmas
+pub mod ListLemmas
+pub mod NumberedLemmas
+pub mod PlacingLemmas
