@@ -1,0 +1,5 @@
+pub mod FoundLemmas
+pub mod ChosenLemmas
+pub mod SeedLemmas
+pub mod SlotLemmas
+pub mod LineLemmas

@@ -1,0 +1,87 @@
+//! What the document of a found module is made of.
+ghost use Rattle.std.specs.Prelude.{◌≡◌, ◌<◌, ◌&&◌, not, IfSome};
+ghost use Rattle.std.specs.List.{list_any};
+ghost use Rattle.ad_entity.specs.Builtin.{is_builtin};
+ghost use Rattle.ad_entity.specs.Entities.{entity, same_entity};
+ghost use Rattle.ad_syntax_laws.specs.ModuleDocument.{goes_with, is_iri_of_one};
+ghost use Rattle.ad_module_document.specs.Documents.{IsRoomFor, is_about, is_chosen};
+
+use crate::room::Room;
+use ad_base::Word;
+use ad_numbered::NumberedOntology;
+use ad_tree::{Axiom, Entity, EntityKind, Naming, Noted, Seed, Seen, Subject};
+
+// A module that was found in an ontology for a seed.
+#[derive(Drop)]
+pub(crate) struct Found<'a> {
+    pub(crate) ontology: &'a NumberedOntology,
+    pub(crate) seed: &'a Seed,
+    pub(crate) room: &'a Room,
+    ghost fits: { IsRoomFor ontology.now.most ontology.now.symbols room.now },
+}
+
+// The entities of the seed, and those in the module's signatures.
+impl<'a> Seen for Found<'a> {
+    ghost member = { λ found. is_about found.ontology.now found.seed.now found.room.now.closure };
+
+    fn has(&self, kind: EntityKind, name: &Word) -> bool {
+        self.ontology.laws();
+        match self.ontology.number(kind, name) {
+            Some(number) => self.room.closure.has(number),
+            None => is_named(self.seed, kind, name),
+        }
+    }
+}
+
+impl<'a> Found<'a> {
+    // Whether an axiom with this slot, if it has one, is in the document.
+    pub(crate) fn chooses(&self, noted: &Noted, slot: Option<u32>) -> bool
+        requires { IfSome slot (λ i. i < self.now.ontology.now.most) }
+        ensures { result ≡ is_chosen self.now.ontology.now self.now.seed.now self.now.room.now.members self.now.room.now.closure noted.now slot }
+    {
+        match slot {
+            Some(slot) => self.room.members.has(slot),
+            None => goes_with(noted, self),
+        }
+    }
+}
+
+// Whether one of the seed's entities that aren't built in is this one.
+fn is_named(seed: &Seed, kind: EntityKind, name: &Word) -> bool
+    ensures { result ≡ list_any (λ x. same_entity x (entity kind name.now) && not (is_builtin x)) seed.now }
+{
+    seed.entities().iter().any(|one| is_this(one, kind, name))
+}
+
+// Whether an entity isn't built in, and is the one of this kind and name.
+fn is_this(one: &Entity, kind: EntityKind, name: &Word) -> bool
+    ensures { result ≡ (same_entity one.now (entity kind name.now) && not (is_builtin one.now)) }
+{
+    one.kind == kind && one.name == *name && !one.is_builtin()
+}
+
+// Whether the axiom declares one of these entities, or is an annotation assertion on the IRI of one.
+fn goes_with<S: Seen>(noted: &Noted, entities: &S) -> bool
+    ensures { result ≡ goes_with (S.member entities.now) noted.now.axiom }
+{
+    match &noted.axiom {
+        Axiom::Declaration(declared) => entities.has(declared.kind, &declared.name),
+        Axiom::AnnotationAssertion(_, Subject::Iri(iri), _) => is_iri_of_one(iri, entities),
+        _ => false,
+    }
+}
+
+// Whether one of these entities, of whatever kind, has this IRI.
+fn is_iri_of_one<S: Seen>(iri: &Word, entities: &S) -> bool
+    ensures { result ≡ is_iri_of_one (S.member entities.now) iri.now }
+{
+    let kinds = [
+        EntityKind::Class,
+        EntityKind::Datatype,
+        EntityKind::ObjectProperty,
+        EntityKind::DataProperty,
+        EntityKind::AnnotationProperty,
+        EntityKind::NamedIndividual,
+    ];
+    kinds.iter().any(|kind| entities.has(*kind, iri))
+}
