@@ -1,5 +1,6 @@
 ghost use Rattle.std.specs.Prelude.{◌≡◌, ◌≤◌, ◌<◌, length};
 ghost use Rattle.ad_base.specs.Limits.{AreWithinStandard};
+ghost use Rattle.ad_flat.specs.Universes.{most_in, symbols_in};
 
 use ad_base::{Kind, Limits, Memory};
 use ad_bits::Row;
@@ -30,8 +31,8 @@ pub(crate) fn sizes(
     count: u32,
 ) -> Result<u64, Memory>
     requires limits { AreWithinStandard limits.now }
-    requires slots { universe.now.slots.most ≡ limits.now.axioms }
-    requires symbols { universe.now.slots.symbols ≡ limits.now.entities }
+    requires slots { most_in universe.now ≡ limits.now.axioms }
+    requires symbols { symbols_in universe.now ≡ limits.now.entities }
     requires count { count ≤ limits.now.axioms }
 {
     let mut starred = Starred::of(alloc, Queue::new(alloc, limits)?, limits)?;
