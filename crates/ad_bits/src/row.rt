@@ -39,6 +39,16 @@ impl Row {
         })
     }
 
+    /// A row with the size and the members of the other one.
+    pub fn copied(alloc: Global, other: &Row) -> Result<Row, Memory>
+        ensures { IfOk result (λ row. row ≡ other.now) }
+    {
+        Ok(Row {
+            size: other.size,
+            words: other.words.to_vec(alloc)?,
+        })
+    }
+
     /// The numbers below it may be members.
     pub fn size(&self) -> u32
         ensures { result ≡ length self.now }

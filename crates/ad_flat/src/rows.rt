@@ -23,7 +23,5 @@ pub(crate) fn full_row(alloc: Global, size: u32) -> Result<Row, Memory>
 pub(crate) fn copy_row(alloc: Global, row: &Row) -> Result<Row, Memory>
     ensures { IfOk result (λ copy. copy ≡ row.now) }
 {
-    let mut copy = empty_row(alloc, row.size())?;
-    copy.copy_from(row);
-    Ok(copy)
+    Row::copied(alloc, row).map_err(|_| Memory)
 }

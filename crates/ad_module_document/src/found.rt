@@ -3,13 +3,13 @@ ghost use Rattle.std.specs.Prelude.{◌≡◌, ◌<◌, ◌&&◌, not, IfSome};
 ghost use Rattle.std.specs.List.{list_any};
 ghost use Rattle.ad_entity.specs.Builtin.{is_builtin};
 ghost use Rattle.ad_entity.specs.Entities.{entity, same_entity};
-ghost use Rattle.ad_syntax_laws.specs.ModuleDocument.{goes_with, is_iri_of_one};
 ghost use Rattle.ad_module_document.specs.Documents.{IsRoomFor, is_about, is_chosen};
 
 use crate::room::Room;
 use ad_base::Word;
 use ad_numbered::NumberedOntology;
-use ad_tree::{Axiom, Entity, EntityKind, Naming, Noted, Seed, Seen, Subject};
+use ad_syntax_laws::goes_with;
+use ad_tree::{Entity, EntityKind, Naming, Noted, Seed, Seen};
 
 // A module that was found in an ontology for a seed.
 #[derive(Drop)]
@@ -58,30 +58,4 @@ fn is_this(one: &Entity, kind: EntityKind, name: &Word) -> bool
     ensures { result ≡ (same_entity one.now (entity kind name.now) && not (is_builtin one.now)) }
 {
     one.kind == kind && one.name == *name && !one.is_builtin()
-}
-
-// Whether the axiom declares one of these entities, or is an annotation assertion on the IRI of one.
-fn goes_with<S: Seen>(noted: &Noted, entities: &S) -> bool
-    ensures { result ≡ goes_with (S.member entities.now) noted.now.axiom }
-{
-    match &noted.axiom {
-        Axiom::Declaration(declared) => entities.has(declared.kind, &declared.name),
-        Axiom::AnnotationAssertion(_, Subject::Iri(iri), _) => is_iri_of_one(iri, entities),
-        _ => false,
-    }
-}
-
-// Whether one of these entities, of whatever kind, has this IRI.
-fn is_iri_of_one<S: Seen>(iri: &Word, entities: &S) -> bool
-    ensures { result ≡ is_iri_of_one (S.member entities.now) iri.now }
-{
-    let kinds = [
-        EntityKind::Class,
-        EntityKind::Datatype,
-        EntityKind::ObjectProperty,
-        EntityKind::DataProperty,
-        EntityKind::AnnotationProperty,
-        EntityKind::NamedIndividual,
-    ];
-    kinds.iter().any(|kind| entities.has(*kind, iri))
 }

@@ -1,4 +1,5 @@
 ghost use Rattle.std.specs.Prelude.{◌≤◌, ◌-◌, length, drop};
+ghost use Rattle.ad_base.specs.Limits.{standard};
 ghost use Rattle.ad_lex.specs.Lexemes.{lexemes};
 ghost use Rattle.ad_lex.specs.Spans.{AreTokensOf};
 ghost use Rattle.ad_grammar.specs.Faults.{IsLongest};
@@ -14,7 +15,7 @@ use ad_lex::Tokens;
 pub(crate) fn behind<T: PhraseTree>(text: &[u8], tokens: &Tokens, from: u32) -> u32
     requires tokens { AreTokensOf text.now tokens.now }
     requires from { from ≤ length tokens.now }
-    requires nesting { nesting (drop from (lexemes text.now tokens.now)) ≤ 128 }
+    requires nesting { nesting (drop from (lexemes text.now tokens.now)) ≤ standard.depth }
     requires phrase { HasPhrase (form_of T.PHRASE) (drop from (lexemes text.now tokens.now)) }
     ensures after { from ≤ result }
     ensures longest { IsLongest (form_of T.PHRASE) (drop from (lexemes text.now tokens.now)) (result - from) }

@@ -1,5 +1,6 @@
 ghost use Rattle.std.specs.Prelude.{◌≡◌, ℕ, ◌≤◌, false, length, drop, OnOk, IfOk, IfErr};
 ghost use Rattle.ad_lex.specs.declared.token.Token.{Token};
+ghost use Rattle.ad_base.specs.Limits.{standard};
 ghost use Rattle.ad_lex.specs.Lexemes.{lexemes};
 ghost use Rattle.ad_lex.specs.Spans.{AreTokensOf};
 ghost use Rattle.ad_tree.specs.declared.names.ObjProp.{ObjProp};
@@ -56,7 +57,7 @@ pub fn build_class(
 ) -> Result<(Class, u32), BuildRefused>
     requires tokens { AreTokensOf text.now tokens.now }
     requires from { from ≤ length tokens.now }
-    requires nesting { nesting (drop from (lexemes text.now tokens.now)) ≤ 128 }
+    requires nesting { nesting (drop from (lexemes text.now tokens.now)) ≤ standard.depth }
     requires phrase { HasPhrase form.class (drop from (lexemes text.now tokens.now)) }
     ensures built { IfOk result (λ built. IsBuilt form.class (SpellsClass false (in_force (declarations prefixes.now))) (lexemes text.now tokens.now) from built.0 built.1) }
     ensures complete { (x : Class) (to : ℕ) → IsBuilt form.class (SpellsClass false (in_force (declarations prefixes.now))) (lexemes text.now tokens.now) from x to → IsBuiltOrMemory result x to }
@@ -76,7 +77,7 @@ pub fn build_range(
 ) -> Result<(Range, u32), BuildRefused>
     requires tokens { AreTokensOf text.now tokens.now }
     requires from { from ≤ length tokens.now }
-    requires nesting { nesting (drop from (lexemes text.now tokens.now)) ≤ 128 }
+    requires nesting { nesting (drop from (lexemes text.now tokens.now)) ≤ standard.depth }
     requires phrase { HasPhrase form.range (drop from (lexemes text.now tokens.now)) }
     ensures built { IfOk result (λ built. IsBuilt form.range (SpellsRange (in_force (declarations prefixes.now))) (lexemes text.now tokens.now) from built.0 built.1) }
     ensures complete { (x : Range) (to : ℕ) → IsBuilt form.range (SpellsRange (in_force (declarations prefixes.now))) (lexemes text.now tokens.now) from x to → IsBuiltOrMemory result x to }
@@ -96,7 +97,7 @@ pub fn build_objprop(
 ) -> Result<(ObjProp, u32), BuildRefused>
     requires tokens { AreTokensOf text.now tokens.now }
     requires from { from ≤ length tokens.now }
-    requires nesting { nesting (drop from (lexemes text.now tokens.now)) ≤ 128 }
+    requires nesting { nesting (drop from (lexemes text.now tokens.now)) ≤ standard.depth }
     requires phrase { HasPhrase form.property (drop from (lexemes text.now tokens.now)) }
     ensures built { IfOk result (λ built. IsBuilt form.property (SpellsProperty (in_force (declarations prefixes.now))) (lexemes text.now tokens.now) from built.0 built.1) }
     ensures complete { (x : ObjProp) (to : ℕ) → IsBuilt form.property (SpellsProperty (in_force (declarations prefixes.now))) (lexemes text.now tokens.now) from x to → IsBuiltOrMemory result x to }
@@ -116,7 +117,7 @@ pub fn build_individual(
 ) -> Result<(Individual, u32), BuildRefused>
     requires tokens { AreTokensOf text.now tokens.now }
     requires from { from ≤ length tokens.now }
-    requires nesting { nesting (drop from (lexemes text.now tokens.now)) ≤ 128 }
+    requires nesting { nesting (drop from (lexemes text.now tokens.now)) ≤ standard.depth }
     requires phrase { HasPhrase form.individual (drop from (lexemes text.now tokens.now)) }
     ensures built { IfOk result (λ built. IsBuilt form.individual (SpellsIndividual (in_force (declarations prefixes.now))) (lexemes text.now tokens.now) from built.0 built.1) }
     ensures complete { (x : Individual) (to : ℕ) → IsBuilt form.individual (SpellsIndividual (in_force (declarations prefixes.now))) (lexemes text.now tokens.now) from x to → IsBuiltOrMemory result x to }
@@ -136,7 +137,7 @@ pub fn build_literal(
 ) -> Result<(Literal, u32), BuildRefused>
     requires tokens { AreTokensOf text.now tokens.now }
     requires from { from ≤ length tokens.now }
-    requires nesting { nesting (drop from (lexemes text.now tokens.now)) ≤ 128 }
+    requires nesting { nesting (drop from (lexemes text.now tokens.now)) ≤ standard.depth }
     requires phrase { HasPhrase form.literal (drop from (lexemes text.now tokens.now)) }
     ensures built { IfOk result (λ built. IsBuilt form.literal (SpellsLiteral (in_force (declarations prefixes.now))) (lexemes text.now tokens.now) from built.0 built.1) }
     ensures complete { (x : Literal) (to : ℕ) → IsBuilt form.literal (SpellsLiteral (in_force (declarations prefixes.now))) (lexemes text.now tokens.now) from x to → IsBuiltOrMemory result x to }
@@ -156,7 +157,7 @@ fn build<T: PhraseTree>(
 ) -> Result<(T, u32), BuildRefused>
     requires tokens { AreTokensOf text.now tokens.now }
     requires from { from ≤ length tokens.now }
-    requires nesting { nesting (drop from (lexemes text.now tokens.now)) ≤ 128 }
+    requires nesting { nesting (drop from (lexemes text.now tokens.now)) ≤ standard.depth }
     requires phrase { HasPhrase (form_of T.PHRASE) (drop from (lexemes text.now tokens.now)) }
     ensures built { IfOk result (λ built. IsBuilt (form_of T.PHRASE) (T.spells (in_force (declarations prefixes.now))) (lexemes text.now tokens.now) from built.0 built.1) }
     ensures complete { (x : T) (to : ℕ) → IsBuilt (form_of T.PHRASE) (T.spells (in_force (declarations prefixes.now))) (lexemes text.now tokens.now) from x to → IsBuiltOrMemory result x to }

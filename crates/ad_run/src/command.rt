@@ -17,9 +17,9 @@ use std::alloc::Global;
 // What the words ask for.
 #[derive(Clone, Copy)]
 pub(crate) enum Asked {
-    /// The module of this side.
+    // The module of this side.
     Module(Side),
-    /// A session, with so many workers.
+    // A session, with so many workers.
     Script(u32),
     Nothing,
 }

@@ -11,7 +11,7 @@ use std::alloc::Global;
 // Why a text gave no ontology.
 #[derive(Clone, Copy)]
 pub(crate) enum Unread {
-    /// It is no document of an ontology within the limits, for this cause.
+    // It is no document of an ontology within the limits, for this cause.
     Refused(Refusal),
     Memory,
 }

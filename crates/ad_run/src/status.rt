@@ -10,23 +10,23 @@ use ad_reply::{Refusal, explain};
 // How a run ends.
 #[derive(Clone, Copy)]
 pub(crate) enum Status {
-    /// All was written.
+    // All was written.
     Done,
-    /// The words are those of no command.
+    // The words are those of no command.
     Usage,
-    /// The document was refused for this cause.
+    // The document was refused for this cause.
     Refused(Refusal),
-    /// The input of the session was cut.
+    // The input of the session was cut.
     Cut,
-    /// A line of the session, or its payload, is too long.
+    // A line of the session, or its payload, is too long.
     TooLong,
-    /// The session had as many requests as one may have.
+    // The session had as many requests as one may have.
     Spent,
-    /// The source failed.
+    // The source failed.
     ReadFault,
-    /// The sink failed.
+    // The sink failed.
     WriteFault,
-    /// Memory is wanting.
+    // Memory is wanting.
     Memory,
 }
 

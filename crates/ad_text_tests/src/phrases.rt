@@ -1,5 +1,6 @@
 //! The phrases of a text, each checked and built from a token on.
 ghost use Rattle.std.specs.Prelude.{◌≤◌, ◌<◌, ◌^◌, length, drop};
+ghost use Rattle.ad_base.specs.Limits.{standard};
 ghost use Rattle.ad_lex.specs.Lexemes.{lexemes};
 ghost use Rattle.ad_lex.specs.Spans.{AreTokensOf};
 ghost use Rattle.ad_grammar.specs.Nesting.{nesting};
@@ -164,7 +165,7 @@ fn class(
 ) -> Result<Vec<u8>, Fail>
     requires tokens { AreTokensOf text.now tokens.now }
     requires from { from ≤ length tokens.now }
-    requires nesting { nesting (drop from (lexemes text.now tokens.now)) ≤ 128 }
+    requires nesting { nesting (drop from (lexemes text.now tokens.now)) ≤ standard.depth }
 {
     if let Err(stop) = check_class(text, tokens, from) {
         return stopped(alloc, stop);
@@ -185,7 +186,7 @@ fn range(
 ) -> Result<Vec<u8>, Fail>
     requires tokens { AreTokensOf text.now tokens.now }
     requires from { from ≤ length tokens.now }
-    requires nesting { nesting (drop from (lexemes text.now tokens.now)) ≤ 128 }
+    requires nesting { nesting (drop from (lexemes text.now tokens.now)) ≤ standard.depth }
 {
     if let Err(stop) = check_range(text, tokens, from) {
         return stopped(alloc, stop);
@@ -210,7 +211,7 @@ fn property(
 ) -> Result<Vec<u8>, Fail>
     requires tokens { AreTokensOf text.now tokens.now }
     requires from { from ≤ length tokens.now }
-    requires nesting { nesting (drop from (lexemes text.now tokens.now)) ≤ 128 }
+    requires nesting { nesting (drop from (lexemes text.now tokens.now)) ≤ standard.depth }
 {
     if let Err(stop) = check_objprop(text, tokens, from) {
         return stopped(alloc, stop);
@@ -231,7 +232,7 @@ fn member(
 ) -> Result<Vec<u8>, Fail>
     requires tokens { AreTokensOf text.now tokens.now }
     requires from { from ≤ length tokens.now }
-    requires nesting { nesting (drop from (lexemes text.now tokens.now)) ≤ 128 }
+    requires nesting { nesting (drop from (lexemes text.now tokens.now)) ≤ standard.depth }
 {
     if let Err(stop) = check_individual(text, tokens, from) {
         return stopped(alloc, stop);
@@ -256,7 +257,7 @@ fn literal(
 ) -> Result<Vec<u8>, Fail>
     requires tokens { AreTokensOf text.now tokens.now }
     requires from { from ≤ length tokens.now }
-    requires nesting { nesting (drop from (lexemes text.now tokens.now)) ≤ 128 }
+    requires nesting { nesting (drop from (lexemes text.now tokens.now)) ≤ standard.depth }
 {
     if let Err(stop) = check_literal(text, tokens, from) {
         return stopped(alloc, stop);

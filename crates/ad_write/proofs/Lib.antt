@@ -1,4 +1,3 @@
 pub mod Equations
 pub mod Escapes
-pub mod Joining
 pub mod Texts

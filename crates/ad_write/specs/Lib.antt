@@ -2,5 +2,3 @@ pub mod Arguments
 pub mod Canonical
 pub mod Groups
 pub mod Keywords
-pub mod Pen
-pub mod PenLaws

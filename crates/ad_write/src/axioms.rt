@@ -4,8 +4,8 @@ ghost use Rattle.ad_write.specs.Groups.{is_relation, is_characteristic, is_on_da
 ghost use Rattle.ad_write.specs.Canonical.{canon, canon_annotation, canon_axiom, canon_line};
 
 use crate::keywords;
-use crate::pen::Pen;
 use crate::shapes::{Group, list, one, one_and_list, three, two};
+use ad_lines::Pen;
 use ad_tree::{Annotation, Axiom, Class, Noted, ObjProp, ObjProps, Words};
 
 /// An axiom with its annotations.

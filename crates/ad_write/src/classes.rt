@@ -4,10 +4,10 @@ ghost use Rattle.ad_write.specs.Canonical.{canon_class, canon_iri, canon_optiona
 ghost use Rattle.ad_write.specs.Arguments.{behind};
 
 use crate::keywords;
-use crate::pen::Pen;
 use crate::shapes::{begin, list, one, three, two};
 use crate::spelled::{Spelled, argument, separate};
 use ad_base::Word;
+use ad_lines::Pen;
 use ad_tree::{Class, Classes, ObjProp, One, Range};
 
 // A class expression.

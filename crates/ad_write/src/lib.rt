@@ -8,14 +8,11 @@ pub use writes::{
 
 mod axioms;
 mod classes;
-mod inked;
 pub mod keywords;
 mod literals;
 mod names;
 mod notes;
-mod pen;
 mod ranges;
-mod scale;
 mod shapes;
 mod spelled;
 mod writes;

@@ -1,8 +1,8 @@
 ghost use Rattle.std.specs.Prelude.{◌≡◌, ◌++◌, ◌∷◌, [], ◌<◌, take, drop, length, IfSome, IfNone};
 ghost use Rattle.ad_write.specs.Canonical.{canon_literal, canon_facet, escaped, quoted};
 
-use crate::pen::Pen;
 use crate::spelled::Spelled;
+use ad_lines::Pen;
 use ad_tree::{Facet, Literal};
 use memchr::memchr2;
 

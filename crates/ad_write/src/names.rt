@@ -2,10 +2,10 @@ ghost use Rattle.std.specs.Prelude.{◌≡◌};
 ghost use Rattle.ad_write.specs.Canonical.{canon_anonymous, canon_entity, canon_individual, canon_property, canon_subject, entity_kind_word};
 
 use crate::keywords;
-use crate::pen::Pen;
 use crate::shapes::one;
 use crate::spelled::Spelled;
 use ad_base::Word;
+use ad_lines::Pen;
 use ad_tree::{Entity, EntityKind, Individual, ObjProp, Subject};
 
 // An object property, or the inverse of a named one.

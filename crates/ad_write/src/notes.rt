@@ -4,8 +4,8 @@ ghost use Rattle.ad_write.specs.Arguments.{behind};
 
 use crate::keywords;
 use crate::names::write_anonymous;
-use crate::pen::Pen;
 use crate::spelled::{Spelled, argument, open, separate};
+use ad_lines::Pen;
 use ad_tree::{Annotation, Value};
 
 // An annotation, with its own annotations before its property and its value.

@@ -3,9 +3,9 @@ ghost use Rattle.ad_write.specs.Canonical.{canon_range, compound};
 ghost use Rattle.ad_write.specs.Arguments.{behind};
 
 use crate::keywords;
-use crate::pen::Pen;
 use crate::shapes::{begin, list, one_and_list};
 use crate::spelled::{Spelled, separate};
+use ad_lines::Pen;
 use ad_tree::{One, Range, Ranges};
 
 // A data range.

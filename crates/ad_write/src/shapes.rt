@@ -3,8 +3,8 @@ ghost use Rattle.ad_write.specs.Canonical.{canon_annotation, compound};
 ghost use Rattle.ad_write.specs.Arguments.{is_empty, opened};
 
 use crate::notes::write_annotations;
-use crate::pen::Pen;
 use crate::spelled::{Spelled, argument, arguments, open};
+use ad_lines::Pen;
 use ad_tree::{Annotation, Many};
 
 /// A keyword, the parenthesis and the annotations, and whether there were none.

@@ -2,8 +2,8 @@ ghost use Rattle.std.specs.Prelude.{ℕ, List, ◌∷◌, ◌++◌, [], map, cod
 ghost use Rattle.ad_write.specs.Canonical.{canon_iri};
 ghost use Rattle.ad_write.specs.Arguments.{behind, gap};
 
-use crate::pen::Pen;
 use ad_base::{Word, digits};
+use ad_lines::Pen;
 
 /// What has one canonical text, whoever contains it.
 pub trait Spelled {

@@ -4,12 +4,10 @@ ghost use Rattle.ad_tree.specs.declared.axioms.Noted.{Noted};
 ghost use Rattle.ad_write.specs.Canonical.{canon, canon_line, canon_document, document_foot, document_head};
 
 use crate::axioms::{write_ended, write_noted};
-use crate::inked::Inked;
 use crate::keywords;
-use crate::pen::Pen;
-use crate::scale::Scale;
 use crate::spelled::open;
 use ad_io::{Sink, Wrote};
+use ad_lines::{Inked, Pen, Scale};
 use ad_tree::{Lent, Noted};
 
 /// How many bytes the document without axioms has.
@@ -20,12 +18,9 @@ pub fn write_to<K: Sink>(noted: &Noted, sink: &mut K) -> Wrote
     ensures bytes { Puts (K.written sink.old) (K.written sink.new) result (canon noted.now) }
     ensures cause { PutCause (K.faults sink.old) (K.faults sink.new) result }
 {
-    let mut pen = Inked {
-        sink,
-        wrote: Wrote::All,
-    };
+    let mut pen = Inked::over(sink);
     write_noted(&mut pen, noted);
-    pen.wrote
+    pen.end()
 }
 
 /// Writes the same with the line's end, as it stands in a document. It takes no memory.
@@ -33,12 +28,9 @@ pub fn write_line<K: Sink>(noted: &Noted, sink: &mut K) -> Wrote
     ensures bytes { Puts (K.written sink.old) (K.written sink.new) result (canon_line noted.now) }
     ensures cause { PutCause (K.faults sink.old) (K.faults sink.new) result }
 {
-    let mut pen = Inked {
-        sink,
-        wrote: Wrote::All,
-    };
+    let mut pen = Inked::over(sink);
     write_ended(&mut pen, noted);
-    pen.wrote
+    pen.end()
 }
 
 /// Writes what stands before a document's axioms.
@@ -46,12 +38,9 @@ pub fn write_head<K: Sink>(sink: &mut K) -> Wrote
     ensures bytes { Puts (K.written sink.old) (K.written sink.new) result document_head }
     ensures cause { PutCause (K.faults sink.old) (K.faults sink.new) result }
 {
-    let mut pen = Inked {
-        sink,
-        wrote: Wrote::All,
-    };
+    let mut pen = Inked::over(sink);
     put_head(&mut pen);
-    pen.wrote
+    pen.end()
 }
 
 /// Writes what stands behind a document's axioms.
@@ -59,12 +48,9 @@ pub fn write_foot<K: Sink>(sink: &mut K) -> Wrote
     ensures bytes { Puts (K.written sink.old) (K.written sink.new) result document_foot }
     ensures cause { PutCause (K.faults sink.old) (K.faults sink.new) result }
 {
-    let mut pen = Inked {
-        sink,
-        wrote: Wrote::All,
-    };
+    let mut pen = Inked::over(sink);
     put_foot(&mut pen);
-    pen.wrote
+    pen.end()
 }
 
 /// Writes the document of these axioms. It takes no memory.
@@ -72,12 +58,9 @@ pub fn write_document<A: Lent, K: Sink>(axioms: &[A], sink: &mut K) -> Wrote
     ensures bytes { Puts (K.written sink.old) (K.written sink.new) result (canon_document (map A.lent axioms.now)) }
     ensures cause { PutCause (K.faults sink.old) (K.faults sink.new) result }
 {
-    let mut pen = Inked {
-        sink,
-        wrote: Wrote::All,
-    };
+    let mut pen = Inked::over(sink);
     write_all(&mut pen, axioms);
-    pen.wrote
+    pen.end()
 }
 
 /// How many bytes the canonical text of an axiom has, without a line's end, or the greatest number where they are
@@ -85,9 +68,9 @@ pub fn write_document<A: Lent, K: Sink>(axioms: &[A], sink: &mut K) -> Wrote
 pub fn size(noted: &Noted) -> u64
     ensures { result ≡ min (length (canon noted.now)) (2 ^ 64 - 1) }
 {
-    let mut scale = Scale { bytes: 0 };
+    let mut scale = Scale::new();
     write_noted(&mut scale, noted);
-    scale.bytes
+    scale.bytes()
 }
 
 /// A document without axioms has 12 bytes, and each axiom, wherever it stands, adds its text and one byte.

@@ -10,21 +10,21 @@ use std::alloc::Global;
 
 /// How classes stand below each other.
 #[derive(Clone, Copy)]
-pub enum Shape {
+pub enum Hierarchy {
     /// Each class is below the one with half its number.
     Tree,
     /// Each class is below the one with the next number.
     Chain,
 }
 
-impl Shape {
+impl Hierarchy {
     // The class that is below another by the axiom with this number, and that other.
     fn pair(self, number: u32) -> (u32, u32)
         requires { number < 4294967295 }
     {
         match self {
-            Shape::Tree => (number + 1, (number + 1) / 2),
-            Shape::Chain => (number, number + 1),
+            Hierarchy::Tree => (number + 1, (number + 1) / 2),
+            Hierarchy::Chain => (number, number + 1),
         }
     }
 }
@@ -66,13 +66,13 @@ pub fn put_class(
     Ok(())
 }
 
-/// Puts so many axioms into the least free slots, by which classes have this shape.
+/// Puts so many axioms into the least free slots, by which classes have this hierarchy.
 pub fn put_classes(
     alloc: Global,
     universe: &mut FlatUniverse,
     symbols: &mut Symbols,
     limits: &Limits,
-    shape: Shape,
+    hierarchy: Hierarchy,
     count: u32,
 ) -> anyhow::Result<()>
     requires slots { most_in universe.old ≡ limits.now.axioms }
@@ -83,7 +83,7 @@ pub fn put_classes(
     ensures limit { symbols.new.limit ≡ limits.now.entities }
 {
     for number in 0..count {
-        let (below, above) = shape.pair(number);
+        let (below, above) = hierarchy.pair(number);
         put_class(alloc, universe, symbols, limits, below, above)?;
     }
     Ok(())

@@ -1,6 +1,6 @@
 //! Ontologies of named classes as universes, for the benchmarks.
 #![tactic(auto)]
 
-pub use classes::{Shape, put_class, put_classes};
+pub use classes::{Hierarchy, put_class, put_classes};
 
 mod classes;

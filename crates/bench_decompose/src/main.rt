@@ -1,4 +1,4 @@
-//! Finds the decomposition of a tree or a chain of classes, and prints what it has. The words are the shape, the number
+//! Finds the decomposition of a tree or a chain of classes, and prints what it has. The words are the hierarchy, the number
 //! of axioms, and how far to go: `universe`; `rows`, for the genuine modules; `atoms`, for the whole decomposition; or
 //! `copies`, for copies of the universe with an edit in each.
 #![tactic(auto)]
@@ -79,7 +79,7 @@ fn run(
         &mut universe,
         &mut symbols,
         &limits,
-        work.shape,
+        work.hierarchy,
         work.count,
     )?;
     go(rt, alloc, &universe, &mut symbols, &limits, work.part)

@@ -1,6 +1,6 @@
 use ad_base::number;
 use anyhow::anyhow;
-use bench_classes::Shape;
+use bench_classes::Hierarchy;
 use std::env::Args;
 
 // How far to go.
@@ -15,15 +15,15 @@ pub(crate) enum Part {
 // What to do.
 #[derive(Clone, Copy)]
 pub(crate) struct Work {
-    pub(crate) shape: Shape,
+    pub(crate) hierarchy: Hierarchy,
     pub(crate) count: u32,
     pub(crate) part: Part,
 }
 
-fn shape_of(word: &str) -> Option<Shape> {
+fn hierarchy_of(word: &str) -> Option<Hierarchy> {
     match word {
-        "tree" => Some(Shape::Tree),
-        "chain" => Some(Shape::Chain),
+        "tree" => Some(Hierarchy::Tree),
+        "chain" => Some(Hierarchy::Chain),
         _ => None,
     }
 }
@@ -42,9 +42,9 @@ fn part_of(word: &str) -> Option<Part> {
     }
 }
 
-fn next_shape(words: &mut Args) -> anyhow::Result<Shape> {
-    let word = words.next().ok_or(anyhow!("no shape"))?;
-    shape_of(word.as_str()).ok_or(anyhow!("no such shape"))
+fn next_hierarchy(words: &mut Args) -> anyhow::Result<Hierarchy> {
+    let word = words.next().ok_or(anyhow!("no hierarchy"))?;
+    hierarchy_of(word.as_str()).ok_or(anyhow!("no such hierarchy"))
 }
 
 fn next_count(words: &mut Args) -> anyhow::Result<u32> {
@@ -60,8 +60,12 @@ fn next_part(words: &mut Args) -> anyhow::Result<Part> {
 // What the program's arguments ask for.
 pub(crate) fn asked(mut words: Args) -> anyhow::Result<Work> {
     let _program = words.next();
-    let shape = next_shape(&mut words)?;
+    let hierarchy = next_hierarchy(&mut words)?;
     let count = next_count(&mut words)?;
     let part = next_part(&mut words)?;
-    Ok(Work { shape, count, part })
+    Ok(Work {
+        hierarchy,
+        count,
+        part,
+    })
 }

@@ -5,7 +5,7 @@ ghost use Rattle.ad_flat.specs.Universes.{most_in, symbols_in};
 use ad_base::Limits;
 use ad_flat::FlatUniverse;
 use ad_signature::Symbols;
-use bench_classes::{Shape, put_classes};
+use bench_classes::{Hierarchy, put_classes};
 use std::alloc::Global;
 use std::hash::RandomState;
 
@@ -27,7 +27,7 @@ pub(crate) fn class_tree(
         &mut universe,
         &mut symbols,
         limits,
-        Shape::Tree,
+        Hierarchy::Tree,
         count,
     )?;
     Ok(universe)

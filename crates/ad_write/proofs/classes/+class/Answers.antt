@@ -4,7 +4,7 @@ use Rattle.std.specs.Option.{option_map, option_to_list}
 use Rattle.std.proofs.lemmas.List.{append-nil}
 use Rattle.ad_write.specs.Canonical.{canon_class, canon_property}
 use Rattle.ad_write.proofs.Equations as eq
-use Rattle.ad_write.proofs.Joining.{two, three, five}
+use Rattle.ad_lines.proofs.Joining.{two, three, five}
 use Rattle.ad_write.proofs.Texts.{closed, closed_one, closed_gap, closed_three, behind_more_gap, later_more}
 use Rattle.ad_write.proofs.classes.+class.Goals as goal
 

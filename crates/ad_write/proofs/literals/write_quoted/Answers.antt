@@ -1,6 +1,6 @@
 -- The escaped text between two quotation marks.
 use Rattle.std.proofs.Common.{refl}
-use Rattle.ad_write.proofs.Joining.{three}
+use Rattle.ad_lines.proofs.Joining.{three}
 use Rattle.ad_write.proofs.literals.write_quoted.Goals as goal
 
 pub returns : goal.returns

@@ -1,6 +1,6 @@
 -- The two pieces are the label behind its mark.
 use Rattle.std.proofs.Common.{◌∷◌, ap}
-use Rattle.ad_write.proofs.Joining.{two}
+use Rattle.ad_lines.proofs.Joining.{two}
 use Rattle.ad_write.proofs.names.write_anonymous.Goals as goal
 
 pub returns : goal.returns

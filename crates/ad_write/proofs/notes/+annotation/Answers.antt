@@ -5,7 +5,7 @@ use Rattle.ad_tree.specs.declared.notes.Annotation.TheViews.{out-Annotation}
 use Rattle.ad_write.specs.Keywords as kw
 use Rattle.ad_write.specs.Canonical.{compound, canon_annotation, canon_iri, canon_value}
 use Rattle.ad_write.proofs.Equations.{canon_annotation-out}
-use Rattle.ad_write.proofs.Joining.{three, five}
+use Rattle.ad_lines.proofs.Joining.{three, five}
 use Rattle.ad_write.proofs.Texts.{closed_two, empty_if, behind_more_gap, later_more}
 use Rattle.ad_write.proofs.notes.+annotation.Goals as goal
 

@@ -2,7 +2,7 @@
 use Rattle.std.proofs.Common.{[], ◌∷◌, map, subst, sym, ap, ◌∙◌}
 use Rattle.ad_write.specs.Canonical.{canon_range}
 use Rattle.ad_write.proofs.Equations as eq
-use Rattle.ad_write.proofs.Joining.{three}
+use Rattle.ad_lines.proofs.Joining.{three}
 use Rattle.ad_write.proofs.Texts.{closed, closed_one, behind_more_gap, later_more}
 use Rattle.ad_write.proofs.ranges.+range.Goals as goal
 

@@ -2,7 +2,7 @@
 use Rattle.std.proofs.Common.{true, [], ◌∷◌, map, append_assoc, ◌∙◌}
 use Rattle.ad_write.specs.Canonical.{canon_annotation}
 use Rattle.ad_write.specs.Arguments.{behind}
-use Rattle.ad_write.proofs.Joining.{two}
+use Rattle.ad_lines.proofs.Joining.{two}
 use Rattle.ad_write.proofs.Texts.{empty_if}
 use Rattle.ad_write.proofs.shapes.begin.Goals as goal
 

@@ -1,7 +1,7 @@
 -- The arguments behind the annotations.
 use Rattle.std.proofs.Common.{[], ◌∷◌, map}
 use Rattle.ad_write.specs.Canonical.{canon_annotation}
-use Rattle.ad_write.proofs.Joining.{three}
+use Rattle.ad_lines.proofs.Joining.{three}
 use Rattle.ad_write.proofs.Texts.{closed}
 use Rattle.ad_write.proofs.shapes.list.Goals as goal
 

@@ -1,7 +1,7 @@
 -- An argument and the list behind the annotations.
 use Rattle.std.proofs.Common.{[], ◌∷◌, map}
 use Rattle.ad_write.specs.Canonical.{canon_annotation}
-use Rattle.ad_write.proofs.Joining.{four}
+use Rattle.ad_lines.proofs.Joining.{four}
 use Rattle.ad_write.proofs.Texts.{closed_two}
 use Rattle.ad_write.proofs.shapes.one_and_list.Goals as goal
 

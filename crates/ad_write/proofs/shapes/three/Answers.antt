@@ -1,7 +1,7 @@
 -- Three arguments behind the annotations.
 use Rattle.std.proofs.Common.{[], ◌∷◌, map}
 use Rattle.ad_write.specs.Canonical.{canon_annotation}
-use Rattle.ad_write.proofs.Joining.{five}
+use Rattle.ad_lines.proofs.Joining.{five}
 use Rattle.ad_write.proofs.Texts.{closed_three}
 use Rattle.ad_write.proofs.shapes.three.Goals as goal
 

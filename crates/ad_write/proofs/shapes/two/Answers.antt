@@ -1,7 +1,7 @@
 -- Two arguments behind the annotations.
 use Rattle.std.proofs.Common.{[], ◌∷◌, map}
 use Rattle.ad_write.specs.Canonical.{canon_annotation}
-use Rattle.ad_write.proofs.Joining.{four}
+use Rattle.ad_lines.proofs.Joining.{four}
 use Rattle.ad_write.proofs.Texts.{closed_two}
 use Rattle.ad_write.proofs.shapes.two.Goals as goal
 

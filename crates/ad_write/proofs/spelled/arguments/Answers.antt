@@ -1,5 +1,5 @@
 -- One argument more, and the flag falls.
-use Rattle.ad_write.proofs.Joining.{two}
+use Rattle.ad_lines.proofs.Joining.{two}
 use Rattle.ad_write.proofs.Texts.{behind_more, later_more}
 use Rattle.ad_write.proofs.spelled.arguments.Goals as goal
 

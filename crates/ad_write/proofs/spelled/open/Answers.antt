@@ -1,6 +1,6 @@
 -- The two pieces are the keyword and the parenthesis.
 use Rattle.std.proofs.Common.{◌∷◌, [], ◌++◌, ap}
-use Rattle.ad_write.proofs.Joining.{two}
+use Rattle.ad_lines.proofs.Joining.{two}
 use Rattle.ad_write.proofs.spelled.open.Goals as goal
 
 pub returns : goal.returns

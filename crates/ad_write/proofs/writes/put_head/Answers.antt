@@ -1,6 +1,6 @@
 -- The keyword, the parenthesis and the line's end.
 use Rattle.std.proofs.Common.{refl}
-use Rattle.ad_write.proofs.Joining.{two}
+use Rattle.ad_lines.proofs.Joining.{two}
 use Rattle.ad_write.proofs.writes.put_head.Goals as goal
 
 pub returns : goal.returns

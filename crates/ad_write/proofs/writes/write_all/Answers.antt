@@ -3,7 +3,7 @@ use Rattle.std.proofs.Common.{◌≡◌, ap, take, map, ◌++◌, append_assoc, 
 use Rattle.std.specs.List.{flat_map}
 use Rattle.std.proofs.lemmas.List.{take_all}
 use Rattle.ad_write.specs.Canonical.{canon_line, document_foot, document_head}
-use Rattle.ad_write.proofs.Joining.{three}
+use Rattle.ad_lines.proofs.Joining.{three}
 use Rattle.ad_write.proofs.writes.write_all.Goals as goal
 
 pub returns : goal.returns

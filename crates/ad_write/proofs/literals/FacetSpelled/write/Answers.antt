@@ -1,7 +1,7 @@
 -- The IRI, a space and the value.
 use Rattle.std.proofs.Common.{[], ◌∷◌, append_assoc}
 use Rattle.ad_write.specs.Canonical.{canon_iri, canon_literal}
-use Rattle.ad_write.proofs.Joining.{three}
+use Rattle.ad_lines.proofs.Joining.{three}
 use Rattle.ad_write.proofs.literals.FacetSpelled.write.Goals as goal
 
 pub returns : goal.returns

@@ -1,7 +1,7 @@
 -- The quoted text, and the tag or the datatype behind it.
 use Rattle.std.proofs.Common.{[], ◌∷◌, append_assoc}
 use Rattle.ad_write.specs.Canonical.{canon_iri, quoted}
-use Rattle.ad_write.proofs.Joining.{three}
+use Rattle.ad_lines.proofs.Joining.{three}
 use Rattle.ad_write.proofs.literals.LiteralSpelled.write.Goals as goal
 
 pub returns-in-Lang : goal.returns-in-Lang

@@ -1,6 +1,6 @@
 -- The three pieces are the IRI in full.
 use Rattle.std.proofs.Common.{[], ◌∷◌, ◌++◌, ap}
-use Rattle.ad_write.proofs.Joining.{three}
+use Rattle.ad_lines.proofs.Joining.{three}
 use Rattle.ad_write.proofs.spelled.WordSpelled.write.Goals as goal
 
 pub returns : goal.returns
