@@ -17,8 +17,8 @@ use Rattle.ad_edition.specs.declared.working.Done.{Done}
 use Rattle.ad_edition.specs.declared.working.Working.{Working}
 use Rattle.ad_edition.specs.Apply.{Counts, counted, counts_from, has_axiom, without, done, done_by, applied}
 use Rattle.ad_tree.specs.Logical.{is_logical}
-use Rattle.ad_syntax_laws.specs.OntologyModule.{logical}
-use Rattle.ad_edition.specs.Places.{is_here, here_from, Sits, values}
+use Rattle.ad_syntax_laws.specs.OntologyModule.{logical, values}
+use Rattle.ad_edition.specs.Places.{is_here, here_from, Sits}
 use Rattle.ad_edition.specs.Steps.{op_in, batch_in}
 use Rattle.ad_edition.specs.Working.{is_at, StayNamed, AreNamed, ComesTo, AddsOne, TakesOne, Does, place_now, all_places, counts_in, total_of}
 use Rattle.ad_edition.proofs.PlacesLemmas.{here_from-append, absent_has, here_has, here_removed, here_added, Sits-removed, Sits-added}

@@ -17,7 +17,8 @@ use Rattle.ad_tree.specs.declared.axioms.Noted.{Noted}
 use Rattle.ad_edition.specs.declared.places.Place.{Place}
 use Rattle.ad_edition.specs.declared.places.Place.TheVariants as places
 use Rattle.ad_edition.specs.declared.steps.Step.{Step}
-use Rattle.ad_edition.specs.Places.{place_in, is_here, here_from, values}
+use Rattle.ad_syntax_laws.specs.OntologyModule.{values}
+use Rattle.ad_edition.specs.Places.{place_in, is_here, here_from}
 use Rattle.ad_edition.specs.Working.{Enters, is_at, IsUnsettled, StayNamed, AreNamed}
 use Rattle.ad_edition.proofs.PlacesLemmas.{Agrees, here_whole, here_from-append}
 

@@ -3,8 +3,6 @@
 use Rattle.std.specs.Prelude.{◌≡◌, ℕ, ◌<◌, Bool, true, false, cond, List, [], ◌∷◌, Option, None, Some, nat_eq, length, slice_index_or, suc, map}
 use Rattle.std.specs.HashMap.{HashMap, get_by}
 use Rattle.std.specs.Borrow.{Bor}
-use Rattle.std.specs.Arc.{arc_value}
-use Rattle.std.specs.declared.sync.Arc.{Arc}
 use Rattle.ad_edition.specs.Same.{same_axiom}
 use Rattle.ad_tree.specs.declared.axioms.Noted.{Noted}
 use Rattle.ad_edition.specs.declared.places.Place.{Place}
@@ -28,7 +26,3 @@ here_from place i (x ∷ xs) = cond (is_here (place x) i) (x ∷ here_from place
 -- what is said to stand in a place stands there
 abbrev pub Sits : {X : Type 0} → (X → X → Bool) → (X → Option Place) → List X → Type 0
 Sits {X} same place all = (x : X) (i : ℕ) → place x ≡ Some (places.At i) → (i < length all) × (same (slice_index_or all i x) x ≡ true)
-
--- the values of shared axioms
-abbrev pub values : {Z : Type 0} → List (Arc Noted Z) → List Noted
-values {Z} arcs = map (λ (a : Arc Noted Z). arc_value a) arcs

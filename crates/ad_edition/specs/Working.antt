@@ -6,7 +6,8 @@ use Rattle.ad_tree.specs.declared.axioms.Noted.{Noted}
 use Rattle.ad_tree.specs.declared.edits.Sign.{Sign}
 use Rattle.ad_tree.specs.declared.edits.Sign.TheVariants as signs
 use Rattle.ad_edition.specs.Apply.{Counts}
-use Rattle.ad_edition.specs.Places.{place_in, here_from, Sits, values}
+use Rattle.ad_syntax_laws.specs.OntologyModule.{values}
+use Rattle.ad_edition.specs.Places.{place_in, here_from, Sits}
 use Rattle.ad_edition.specs.declared.places.Place.{Place}
 use Rattle.ad_edition.specs.declared.places.Place.TheVariants as places
 use Rattle.ad_edition.specs.declared.steps.Step.{Step}

@@ -2,9 +2,8 @@ ghost use Rattle.std.specs.Prelude.{◌≡◌, ◌≤◌, IfOk, length};
 ghost use Rattle.std.specs.List.{IsDistinct};
 ghost use Rattle.ad_edition.specs.Same.{same_axiom};
 ghost use Rattle.ad_edition.specs.Apply.{applied, counts_of};
-ghost use Rattle.ad_syntax_laws.specs.OntologyModule.{logical};
+ghost use Rattle.ad_syntax_laws.specs.OntologyModule.{logical, values};
 ghost use Rattle.ad_edition.specs.Limit.{passed_with, Names};
-ghost use Rattle.ad_edition.specs.Places.{values};
 ghost use Rattle.ad_edition.specs.Steps.{batch_in};
 ghost use Rattle.ad_edition.specs.Working.{counts_in};
 

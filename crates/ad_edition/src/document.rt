@@ -1,6 +1,6 @@
 ghost use Rattle.std.specs.Prelude.{◌≡◌, ◌+◌, IfOk, length};
 ghost use Rattle.ad_write.specs.Canonical.{canon, canon_document};
-ghost use Rattle.ad_edition.specs.Places.{values};
+ghost use Rattle.ad_syntax_laws.specs.OntologyModule.{values};
 
 use ad_base::Memory;
 use ad_tree::Noted;

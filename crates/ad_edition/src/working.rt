@@ -4,7 +4,8 @@ ghost use Rattle.std.specs.Arc.{arc_value};
 ghost use Rattle.ad_edition.specs.Same.{same_axiom};
 ghost use Rattle.ad_tree.specs.declared.axioms.Noted.{Noted};
 ghost use Rattle.ad_edition.specs.Apply.{applied, counts_from};
-ghost use Rattle.ad_edition.specs.Places.{place_in, is_here, here_from, values, Sits};
+ghost use Rattle.ad_syntax_laws.specs.OntologyModule.{values};
+ghost use Rattle.ad_edition.specs.Places.{place_in, is_here, here_from, Sits};
 ghost use Rattle.ad_edition.specs.Steps.{batch_in};
 ghost use Rattle.ad_edition.specs.Working.{counts_in, total_of, is_at, place_now, ComesTo, AddsOne, TakesOne, Does, AreNamed, StayNamed, IsUnsettled};
 

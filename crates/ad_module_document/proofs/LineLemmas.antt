@@ -14,7 +14,7 @@ use Rattle.ad_io.specs.declared.writes.Wrote.TheVariants as wrote
 use Rattle.ad_io.proofs.FlowLemmas.{goes_on, stops, stops_early}
 use Rattle.ad_tree.specs.declared.axioms.Noted.{Noted}
 use Rattle.ad_write.specs.Canonical.{canon_document, canon_line, document_foot, document_head}
-use Rattle.ad_numbered.specs.Numbered.{values}
+use Rattle.ad_syntax_laws.specs.OntologyModule.{values}
 use Rattle.ad_module_document.specs.Lines.{document_of, is_in, line_in}
 use Rattle.ad_module_document.specs.declared.found.Found.{Found}
 

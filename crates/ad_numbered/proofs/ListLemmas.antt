@@ -9,9 +9,9 @@ use Rattle.std.proofs.lemmas.List.Elements.{filter-append}
 use Rattle.ad_tree.specs.declared.axioms.Noted.{Noted}
 use Rattle.ad_theory.specs.Numbers.{among}
 use Rattle.ad_theory.proofs.Members.{either, not_both, or_left, or_right}
-use Rattle.ad_syntax_laws.specs.OntologyModule.{is_logical_axiom, logical}
+use Rattle.ad_syntax_laws.specs.OntologyModule.{is_logical_axiom, logical, values}
 use Rattle.ad_signature.specs.Firsts.{signature_of}
-use Rattle.ad_numbered.specs.Numbered.{values, signatures, given}
+use Rattle.ad_numbered.specs.Numbered.{signatures, given}
 
 -- shared axioms
 

@@ -1,9 +1,7 @@
 -- Ontologies whose logical axioms stand in numbered slots, and whose entities have numbers.
 use Rattle.std.specs.Prelude.{◌≡◌, ℕ, ◌<◌, ◌≤◌, List, [], ◌∷◌, Option, None, Some, is_some, IsSome, IsTrue, length, map, nat_eq, refl}
-use Rattle.std.specs.Arc.{arc_value}
 use Rattle.std.specs.Coded.{Coded, code_by, coded×, coded_ℕ, coded_list, coded_option}
 use Rattle.std.specs.List.{AllZip, IsDistinct, flat_map}
-use Rattle.std.specs.declared.sync.Arc.{Arc}
 use Rattle.ad_entity.specs.declared.entities.Entity.{Entity}
 use Rattle.ad_tree.specs.declared.axioms.Noted.{Noted}
 use Rattle.ad_syntax_laws.specs.OntologyModule.{is_logical_axiom, logical}
@@ -17,10 +15,6 @@ use Rattle.ad_tree.specs.contracts.axioms.Noted as noted_row
 use Rattle.ad_flat.specs.Trees.{ArePlaced, in_signatures}
 use Rattle.ad_flat.specs.Universes.{held_in, most_in, symbols_in}
 use Rattle.ad_flat.specs.declared.flat.FlatUniverse.{FlatUniverse}
-
--- the values of shared axioms
-abbrev pub values : {Z : Type 0} → List (Arc Noted Z) → List Noted
-values {Z} arcs = map (λ (a : Arc Noted Z). arc_value a) arcs
 
 -- the signatures of these axioms, one after the other
 abbrev pub signatures : List Noted → List Entity

@@ -2,10 +2,10 @@
 ghost use Rattle.std.specs.Prelude.{◌≡◌, ◌<◌, ◌++◌, [], ◌∷◌, List, length, IfOk, IfErr, OnOk};
 ghost use Rattle.ad_base.specs.Limits.{AreWithinStandard};
 ghost use Rattle.ad_entity.specs.declared.entities.Entity.{Entity};
-ghost use Rattle.ad_syntax_laws.specs.OntologyModule.{logical};
+ghost use Rattle.ad_syntax_laws.specs.OntologyModule.{logical, values};
 ghost use Rattle.ad_signature.specs.Firsts.{signature_of};
 ghost use Rattle.ad_numbered.specs.Making.{AreEntered, AreTooMany};
-ghost use Rattle.ad_numbered.specs.Numbered.{values, signatures, entities_of};
+ghost use Rattle.ad_numbered.specs.Numbered.{signatures, entities_of};
 ghost use Rattle.ad_numbered.specs.Refused.{IsUnnumbered};
 
 use crate::refused::NumberRefused;

@@ -1,11 +1,11 @@
 ghost use Rattle.std.specs.Prelude.{◌≡◌, ◌≤◌, length, IfOk, IfErr};
 ghost use Rattle.std.specs.List.{range_with_len};
 ghost use Rattle.ad_base.specs.Limits.{AreWithinStandard};
-ghost use Rattle.ad_syntax_laws.specs.OntologyModule.{logical};
+ghost use Rattle.ad_syntax_laws.specs.OntologyModule.{logical, values};
 ghost use Rattle.ad_signature.specs.Numbering.{number_in};
 ghost use Rattle.ad_flat.specs.Universes.{held_in, most_in, symbols_in};
 ghost use Rattle.ad_numbered.specs.Making.{AreEntered, AreInOrder};
-ghost use Rattle.ad_numbered.specs.Numbered.{values, signatures, order_of};
+ghost use Rattle.ad_numbered.specs.Numbered.{signatures, order_of};
 ghost use Rattle.ad_numbered.specs.Refused.{IsUnnumbered};
 
 use crate::entering::number_entities;

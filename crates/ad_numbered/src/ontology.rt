@@ -1,10 +1,10 @@
 ghost use Rattle.std.specs.Prelude.{◌≡◌, ◌<◌, ◌≤◌, ◌↔◌, ◌++◌, [], ◌∷◌, None, length, is_some, slice_get, slice_index_or, Some, IfOk, OnOk, IsFalse};
 ghost use Rattle.ad_entity.specs.declared.entities.Entity.{Entity};
 ghost use Rattle.ad_tree.specs.declared.axioms.Noted.{Noted};
-ghost use Rattle.ad_syntax_laws.specs.OntologyModule.{is_logical_axiom, logical};
+ghost use Rattle.ad_syntax_laws.specs.OntologyModule.{is_logical_axiom, logical, values};
 ghost use Rattle.ad_flat.specs.Trees.{in_signatures};
 ghost use Rattle.ad_flat.specs.Universes.{held_in, most_in, symbols_in};
-ghost use Rattle.ad_numbered.specs.Numbered.{IsNumbered, values, entities_of, given, number_of, order_of};
+ghost use Rattle.ad_numbered.specs.Numbered.{IsNumbered, entities_of, given, number_of, order_of};
 
 use ad_base::{Memory, Word};
 use ad_flat::FlatUniverse;
@@ -27,7 +27,8 @@ pub struct NumberedOntology {
 }
 
 impl Model for NumberedOntology {
-    ghost use Rattle.ad_numbered.specs.Numbered.{InSlots, in_slots_code, in_slots, values, IsNumbered};
+    ghost use Rattle.ad_syntax_laws.specs.OntologyModule.{values};
+    ghost use Rattle.ad_numbered.specs.Numbered.{InSlots, in_slots_code, in_slots, IsNumbered};
 
     ghost Value = { InSlots };
 

@@ -1,12 +1,11 @@
 //! Slots for the logical axioms of an ontology.
 ghost use Rattle.std.specs.Prelude.{◌≡◌, ◌<◌, ◌≤◌, [], length, IfOk, IsTrue};
 ghost use Rattle.ad_base.specs.Limits.{AreWithinStandard};
-ghost use Rattle.ad_syntax_laws.specs.OntologyModule.{is_logical_axiom, logical};
+ghost use Rattle.ad_syntax_laws.specs.OntologyModule.{is_logical_axiom, logical, values};
 ghost use Rattle.ad_signature.specs.Numbering.{number_in};
 ghost use Rattle.ad_slots.specs.Places.{least_free};
 ghost use Rattle.ad_flat.specs.Universes.{held_in, most_in, symbols_in};
 ghost use Rattle.ad_numbered.specs.Making.{IsPut, AreInOrder};
-ghost use Rattle.ad_numbered.specs.Numbered.{values};
 
 use ad_base::{Limits, Memory};
 use ad_flat::FlatUniverse;

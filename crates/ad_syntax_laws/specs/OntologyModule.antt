@@ -5,6 +5,8 @@
 -- (DL 2009): the greatest set of logical axioms that is its own bottom and its own top module. Modules are listed in
 -- the ontology's order.
 use Rattle.std.specs.Prelude.{◌≡◌, Bool, List, map}
+use Rattle.std.specs.Arc.{arc_value}
+use Rattle.std.specs.declared.sync.Arc.{Arc}
 use Rattle.std.specs.List.{AllByRecursion, filter}
 use Rattle.ad_base.specs.declared.limits.Kind.{Kind}
 use Rattle.ad_base.specs.declared.limits.Side.TheVariants as sides
@@ -23,6 +25,10 @@ AreAdditions ops = AllByRecursion (λ op. op.sign ≡ signs.Add) ops
 -- the axioms of additions, in order
 abbrev pub axioms_of : List Op → List Noted
 axioms_of ops = map (λ op. op.noted) ops
+
+-- the axioms of an ontology that is kept by their owners
+abbrev pub values : {Z : Type 0} → List (Arc Noted Z) → List Noted
+values {Z} arcs = map (λ (a : Arc Noted Z). arc_value a) arcs
 
 -- whether an axiom with its annotations is a logical one
 abbrev pub is_logical_axiom : Noted → Bool

@@ -2,7 +2,7 @@
 use Rattle.std.proofs.Common.{refl, ap, sym, ◌∙◌}
 use Rattle.ad_edition.specs.declared.working.Working.{Working}
 use Rattle.ad_edition.specs.Apply.{applied}
-use Rattle.ad_edition.specs.Places.{values}
+use Rattle.ad_syntax_laws.specs.OntologyModule.{values}
 use Rattle.ad_edition.specs.Steps.{batch_in}
 use Rattle.ad_edition.specs.Working.{ComesTo}
 use Rattle.ad_edition.proofs.WorkingLemmas.{length-values}

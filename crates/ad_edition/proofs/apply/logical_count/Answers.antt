@@ -3,8 +3,7 @@ use Rattle.std.proofs.Common.{◌≡◌, ◌+◌, cond, length, take, arith, sub
 use Rattle.std.specs.Arc.{arc_value}
 use Rattle.ad_tree.specs.Logical.{is_logical}
 use Rattle.ad_tree.specs.declared.axioms.Noted.{Noted}
-use Rattle.ad_syntax_laws.specs.OntologyModule.{logical}
-use Rattle.ad_edition.specs.Places.{values}
+use Rattle.ad_syntax_laws.specs.OntologyModule.{logical, values}
 use Rattle.ad_edition.proofs.WorkingLemmas.{value_at, length-values}
 use Rattle.ad_edition.proofs.StepLemmas.{logical_more}
 use Rattle.ad_edition.proofs.apply.logical_count.Goals as goal

@@ -1,7 +1,6 @@
 -- The logical axioms so far.
 use Rattle.std.proofs.Common.{◌≡◌, ◌≤◌, length, take}
-use Rattle.ad_syntax_laws.specs.OntologyModule.{logical}
-use Rattle.ad_edition.specs.Places.{values}
+use Rattle.ad_syntax_laws.specs.OntologyModule.{logical, values}
 use Rattle.ad_edition.proofs.apply.logical_count.Given as goal
 
 abbrev pub invariant-loop-noted : goal.invariant-loop-noted

@@ -4,7 +4,7 @@ use Rattle.std.specs.Arc.{arc_value}
 use Rattle.std.proofs.lemmas.List.{take_more}
 use Rattle.ad_tree.specs.declared.axioms.Noted.{Noted}
 use Rattle.ad_write.specs.Canonical.{canon, canon_document}
-use Rattle.ad_edition.specs.Places.{values}
+use Rattle.ad_syntax_laws.specs.OntologyModule.{values}
 use Rattle.ad_edition.proofs.WorkingLemmas.{value_at, length-values}
 use Rattle.ad_edition.proofs.document.document_bytes.Goals as goal
 

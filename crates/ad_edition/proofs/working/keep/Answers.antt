@@ -1,7 +1,8 @@
 -- One more axiom is kept or passed over.
 use Rattle.std.proofs.Common.{◌∙◌, arith}
 use Rattle.std.specs.Arc.{arc_value}
-use Rattle.ad_edition.specs.Places.{place_in, values}
+use Rattle.ad_syntax_laws.specs.OntologyModule.{values}
+use Rattle.ad_edition.specs.Places.{place_in}
 use Rattle.ad_edition.proofs.WorkingLemmas.{keep_more, value_at, length-values}
 use Rattle.ad_edition.proofs.working.keep.Goals as goal
 

@@ -1,6 +1,7 @@
 -- What was kept so far.
 use Rattle.std.proofs.Common.{◌≡◌, ◌++◌, take}
-use Rattle.ad_edition.specs.Places.{place_in, here_from, values}
+use Rattle.ad_syntax_laws.specs.OntologyModule.{values}
+use Rattle.ad_edition.specs.Places.{place_in, here_from}
 use Rattle.ad_edition.proofs.working.keep.Given as goal
 
 abbrev pub invariant-loop-i : goal.invariant-loop-i

@@ -2,7 +2,8 @@
 use Rattle.std.proofs.Common.{◌≡◌, length, arith, subst}
 use Rattle.std.specs.Arc.{arc_value}
 use Rattle.ad_tree.specs.declared.axioms.Noted.{Noted}
-use Rattle.ad_edition.specs.Places.{place_in, values}
+use Rattle.ad_syntax_laws.specs.OntologyModule.{values}
+use Rattle.ad_edition.specs.Places.{place_in}
 use Rattle.ad_edition.proofs.WorkingLemmas.{Seated, Seats, Seated-more, Seated-whole, StayNamed-seats, value_at, length-values}
 use Rattle.ad_edition.proofs.working.seat_all.Goals as goal
 

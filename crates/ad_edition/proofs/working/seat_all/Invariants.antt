@@ -1,5 +1,6 @@
 -- The axioms so far are seated, and what had an entry has one.
-use Rattle.ad_edition.specs.Places.{place_in, values}
+use Rattle.ad_syntax_laws.specs.OntologyModule.{values}
+use Rattle.ad_edition.specs.Places.{place_in}
 use Rattle.ad_edition.specs.Working.{StayNamed}
 use Rattle.ad_edition.proofs.WorkingLemmas.{Seated}
 use Rattle.ad_edition.proofs.working.seat_all.Given as goal

@@ -1,9 +1,9 @@
 -- The entities of one more axiom were entered, or they weren't, because there are too many.
 use Rattle.std.proofs.Common.{subst, ◌∙◌}
 use Rattle.std.proofs.lemmas.Result.{err_from_is_err_and}
-use Rattle.ad_syntax_laws.specs.OntologyModule.{logical}
+use Rattle.ad_syntax_laws.specs.OntologyModule.{logical, values}
 use Rattle.ad_numbered.specs.Making.{AreEntered, AreTooMany}
-use Rattle.ad_numbered.specs.Numbered.{values, signatures}
+use Rattle.ad_numbered.specs.Numbered.{signatures}
 use Rattle.ad_numbered.proofs.ListLemmas.{value_more}
 use Rattle.ad_numbered.proofs.EnteringLemmas.{signatures_more, too_many_whole}
 use Rattle.ad_numbered.proofs.entering.enter_all.Goals as goal

@@ -1,8 +1,8 @@
 -- So far the entities of the first logical axioms were entered.
 use Rattle.std.proofs.Common.{◌≡◌, take}
-use Rattle.ad_syntax_laws.specs.OntologyModule.{logical}
+use Rattle.ad_syntax_laws.specs.OntologyModule.{logical, values}
 use Rattle.ad_numbered.specs.Making.{AreEntered}
-use Rattle.ad_numbered.specs.Numbered.{values, signatures}
+use Rattle.ad_numbered.specs.Numbered.{signatures}
 use Rattle.ad_numbered.proofs.entering.enter_all.Given as goal
 
 abbrev pub invariant-loop-noted : goal.invariant-loop-noted

@@ -1,9 +1,8 @@
 -- One more axiom was placed.
 use Rattle.std.proofs.Common.{◌<◌, take, length, ◌∙◌, arith}
-use Rattle.ad_syntax_laws.specs.OntologyModule.{logical}
+use Rattle.ad_syntax_laws.specs.OntologyModule.{logical, values}
 use Rattle.ad_signature.specs.Numbering.{number_in}
 use Rattle.ad_flat.specs.Universes.{held_in}
-use Rattle.ad_numbered.specs.Numbered.{values}
 use Rattle.ad_numbered.proofs.ListLemmas.{value_more}
 use Rattle.ad_numbered.proofs.PlacingLemmas.{fewer_at, in_order_next}
 use Rattle.ad_numbered.proofs.placing.place_all.Goals as goal

@@ -3,7 +3,7 @@ use Rattle.std.proofs.Common.{◌≡◌, take}
 use Rattle.ad_signature.specs.Numbering.{number_in}
 use Rattle.ad_flat.specs.Universes.{held_in, most_in, symbols_in}
 use Rattle.ad_numbered.specs.Making.{AreInOrder}
-use Rattle.ad_numbered.specs.Numbered.{values}
+use Rattle.ad_syntax_laws.specs.OntologyModule.{values}
 use Rattle.ad_numbered.proofs.placing.place_all.Given as goal
 
 abbrev pub invariant-loop-noted : goal.invariant-loop-noted

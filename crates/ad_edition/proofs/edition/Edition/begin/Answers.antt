@@ -3,8 +3,7 @@ use Rattle.std.proofs.Common.{◌≡◌, length, arith, ap, ◌∙◌}
 use Rattle.std.proofs.lemmas.Result.{err_from_is_err_and}
 use Rattle.ad_write.specs.Canonical.{canon_document}
 use Rattle.ad_edition.specs.Apply.{applied}
-use Rattle.ad_syntax_laws.specs.OntologyModule.{logical}
-use Rattle.ad_edition.specs.Places.{values}
+use Rattle.ad_syntax_laws.specs.OntologyModule.{logical, values}
 use Rattle.ad_edition.specs.Steps.{batch_in}
 use Rattle.ad_edition.specs.Edition.{Held}
 use Rattle.ad_edition.proofs.OntologyLemmas.{IsSound-next, refusal}

@@ -1,10 +1,10 @@
 -- What was entered and placed makes a numbered ontology.
 use Rattle.std.proofs.Common.{subst}
-use Rattle.ad_syntax_laws.specs.OntologyModule.{logical}
+use Rattle.ad_syntax_laws.specs.OntologyModule.{logical, values}
 use Rattle.ad_signature.specs.Numbering.{number_in}
 use Rattle.ad_flat.specs.Universes.{held_in}
 use Rattle.ad_numbered.specs.Making.{AreEntered, AreInOrder}
-use Rattle.ad_numbered.specs.Numbered.{values, signatures}
+use Rattle.ad_numbered.specs.Numbered.{signatures}
 use Rattle.ad_numbered.proofs.NumberedLemmas.{numbered}
 use Rattle.ad_numbered.proofs.ontology.NumberedOntology.of.Goals as goal
 

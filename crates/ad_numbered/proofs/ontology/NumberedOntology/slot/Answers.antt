@@ -2,7 +2,8 @@
 use Rattle.std.proofs.Common.{◌≡◌, ◌<◌, None, length, ap, ◌∙◌, subst, arith}
 use Rattle.std.specs.Prelude.{is_some, slice_index_or}
 use Rattle.std.proofs.lemmas.List.{get_or_read}
-use Rattle.ad_numbered.specs.Numbered.{InSlots, IsNumbered, values}
+use Rattle.ad_syntax_laws.specs.OntologyModule.{values}
+use Rattle.ad_numbered.specs.Numbered.{InSlots, IsNumbered}
 use Rattle.ad_numbered.proofs.NumberedLemmas.{as_many_slots, slotted_at}
 use Rattle.ad_numbered.proofs.ontology.NumberedOntology.slot.Goals as goal
 
