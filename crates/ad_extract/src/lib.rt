@@ -2,6 +2,8 @@
 #![tactic(auto)]
 
 pub use queue::Queue;
+pub use search::take;
+pub use waiting::{begin, reach_all};
 
 mod queue;
 mod search;

@@ -12,8 +12,8 @@ use ad_base::Side;
 use ad_bits::Row;
 use ad_theory::{Tally, Universe};
 
-// Takes an axiom, whose symbols are reached then.
-fn take<U: Universe>(
+/// Takes an axiom, whose symbols are reached then.
+pub fn take<U: Universe>(
     universe: &U,
     slot: u32,
     pending: &mut Vec<u32>,

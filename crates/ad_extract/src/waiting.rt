@@ -24,8 +24,8 @@ pub(crate) fn reach(pending: &mut Vec<u32>, reached: &mut Row, symbol: u32)
     }
 }
 
-// Reaches each of these symbols.
-pub(crate) fn reach_all(pending: &mut Vec<u32>, reached: &mut Row, symbols: &[u32])
+/// Reaches each of these symbols.
+pub fn reach_all(pending: &mut Vec<u32>, reached: &mut Row, symbols: &[u32])
     requires symbols { (s : ℕ) → IsTrue (among symbols.now s) → s < length reached.old }
     requires room { length reached.old ≤ vec_capacity pending.old }
     requires waiting { IsWaiting pending.old.items reached.old }
@@ -40,8 +40,8 @@ pub(crate) fn reach_all(pending: &mut Vec<u32>, reached: &mut Row, symbols: &[u3
     }
 }
 
-// Begins anew: the symbols of the seed are reached, and all of them wait.
-pub(crate) fn begin(pending: &mut Vec<u32>, reached: &mut Row, seed: &Row)
+/// Begins anew: the symbols of the seed are reached, and all of them wait.
+pub fn begin(pending: &mut Vec<u32>, reached: &mut Row, seed: &Row)
     requires size { length seed.now ≡ length reached.old }
     requires room { length reached.old ≤ vec_capacity pending.old }
     ensures waiting { IsWaiting pending.new.items reached.new }
