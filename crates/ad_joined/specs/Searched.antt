@@ -1,7 +1,7 @@
 -- What a search for a module leaves.
 use Rattle.std.specs.Prelude.{◌≡◌, ℕ, Bool, List, ◌⊎◌, IsTrue, length}
 use Rattle.ad_bits.specs.Rows.{has}
-use Rattle.ad_theory.specs.Module.{Logic}
+use Rattle.ad_theory.specs.Module.{Logic, IsModule}
 use Rattle.ad_theory.specs.Sweep.{IsGathered}
 
 -- the axioms of M were gathered, and each other axiom of O is local for what was seen
@@ -14,3 +14,8 @@ pub record IsSearchedRow (L : Logic ℕ ℕ) (live : ℕ → Bool) (slots symbol
   pub row_size : length row ≡ slots
   pub closure_size : length closure ≡ symbols
   pub searched : IsSearched L (L.sig slot) (λ i. IsTrue (live i)) (has row) (has closure)
+
+-- the row, of this size, is the module for the slot's own signature
+pub record IsSideRow (L : Logic ℕ ℕ) (live : ℕ → Bool) (slots slot : ℕ) (row : List Bool) : Type 0 where
+  pub size : length row ≡ slots
+  pub found : (S : ℕ → Bool) × IsModule L (L.sig slot) (λ i. IsTrue (live i)) (has row) S

@@ -2,13 +2,14 @@
 //! where a search meets an axiom that has it, so that a search costs what is new in it.
 #![tactic(auto)]
 
+pub use ahead::Ahead;
 pub use search::Search;
+pub use sides::side_rows;
 pub use whole::Whole;
 
-
+mod ahead;
 mod join;
 mod look;
 mod search;
-
-
+mod sides;
 mod whole;
