@@ -1,16 +1,15 @@
 -- Each round takes the top module of what was found, and the bottom module of that; it ends where one of them is all.
 use Rattle.std.proofs.Common.{◌≡◌, ℕ, ◌≤◌, ◌<◌, IsTrue, sym, subst, arith, ap, refl, ◌∙◌}
-use Rattle.ad_base.specs.declared.limits.Limits.{Limits}
 use Rattle.ad_base.specs.declared.limits.Side.TheVariants.{Bottom, Top}
 use Rattle.ad_bits.specs.Rows.{has, member_count, IsSubset}
 use Rattle.ad_bits.proofs.Rows.{member_count-subset}
 use Rattle.ad_theory.specs.Module.{IsStar, IsClosure}
 use Rattle.ad_theory.specs.Numbers.{logic_of}
 use Rattle.ad_theory.proofs.Members.{not_both}
-use Rattle.ad_theory.proofs.StarLemmas.{above_begins, above_bottom, above_top}
+use Rattle.ad_theory.proofs.StarLemmas.{above_bottom, above_top}
 use Rattle.ad_theory.proofs.KindLemmas.{closure_of_module}
 use Rattle.ad_star.proofs.Rounds.{fewer, fixed_module, fixed_left, star_of}
-use Rattle.ad_star.proofs.starred.Starred.alternate.Goals as goal
+use Rattle.ad_star.proofs.starred.alternate.Goals as goal
 
 pub rounds-init : goal.rounds-init
 rounds-init g c =
@@ -18,14 +17,13 @@ rounds-init g c =
     let B = logic_of (g.U.Universe.symbols_of u) (g.U.Universe.is_local u Bottom) in
     let T = logic_of (g.U.Universe.symbols_of u) (g.U.Universe.is_local u Top) in
     let bottom = c.module.ensures in
-    let whole : (i : ℕ) → IsTrue (g.U.Universe.is_live u i) → IsTrue (has c.args.self.now.all i) =
-    (λ i o. c.args.self.now.whole i (omega (arith, g.met.U.Universe.live_below u i o, c.args.self.now.all_size, c.requires.limits.axioms))) in
     record {
       within = λ i t. (bottom.found.within i t).0;
       fixed = fixed_module {L = B} (g.met.U.Universe.antitone u Bottom) bottom.found;
-      above = above_bottom {B = B} {T = T} (above_begins {B = B} {T = T} (has c.args.self.now.all) whole) bottom.found;
+      above = above_bottom {B = B} {T = T} c.requires.above bottom.found;
       out = refl;
       closure = bottom.closure;
+      room = bottom.out;
       counted = bottom.counted;
       runs = bottom.runs;
       limits = bottom.limits;
@@ -38,7 +36,7 @@ returns-then-same-clause-found g c =
     let T = logic_of (g.U.Universe.symbols_of u) (g.U.Universe.is_local u Top) in
     let v = c.rounds.invariant in
     let top = c.module-in-rounds.ensures in
-    let same : c.module-in-rounds.new.out ≡ c.rounds.self.found = c.same.ensures.0 c.if-same.true in (
+    let same : c.module-in-rounds.new.out ≡ c.rounds.found = c.same.ensures.0 c.if-same.true in (
       subst (λ r. IsStar B T (has c.args.seed.now) (λ i. IsTrue (g.U.Universe.is_live u i)) (has r)) (sym same)
           (star_of {B = B} {T = T} v.within v.fixed (fixed_left {L = T} v.within top.found (λ i t. subst (λ r. IsTrue (has r i)) (sym same) t)) v.above),
       closure_of_module {L = T} top.found,
@@ -66,9 +64,9 @@ rounds-smaller g c =
     let v = c.rounds.invariant in
     let top = c.module-in-rounds.ensures in
     let bottom = c.module-in-rounds-2.ensures in
-    let part : IsSubset c.module-in-rounds.new.out c.rounds.self.found = λ i t. (top.found.within i t).1 in
-    let less : member_count c.module-in-rounds.new.out < member_count c.rounds.self.found = fewer _ _
-    (top.out ∙ v.out ∙ c.requires.out ∙ c.requires.limits.axioms ∙ sym (ap (λ (l : Limits). l.axioms) v.limits) ∙ sym c.rounds.self.found_size)
+    let part : IsSubset c.module-in-rounds.new.out c.rounds.found = λ i t. (top.found.within i t).1 in
+    let less : member_count c.module-in-rounds.new.out < member_count c.rounds.found = fewer _ _
+    (top.out ∙ v.out ∙ c.requires.out ∙ sym c.requires.found ∙ sym v.room)
     part (λ e. not_both (c.same.ensures.1 e) c.if-same.false) in
     let more : member_count c.module-in-rounds-2.new.out ≤ member_count c.module-in-rounds.new.out = member_count-subset _ _ (λ i t. (bottom.found.within i t).1) in
     omega (arith, less, more)
@@ -87,6 +85,7 @@ rounds-preserved g c =
       above = above_bottom {B = B} {T = T} (above_top {B = B} {T = T} v.above top.found) bottom.found;
       out = top.out ∙ v.out;
       closure = bottom.closure ∙ top.closure ∙ v.closure;
+      room = bottom.out ∙ v.room;
       counted = omega (arith, bottom.counted, top.counted, v.counted);
       runs = bottom.runs ∙ top.runs ∙ v.runs;
       limits = bottom.limits ∙ top.limits ∙ v.limits;
