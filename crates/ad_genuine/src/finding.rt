@@ -34,7 +34,7 @@ pub fn scratch<U: Universe + Sync, E: Extractor + Send>(
 {
     let live = live_slots(alloc, universe)?;
     let grouping = grouped(alloc, universe, &live)?;
-    let found = find_shared::<U, E>(rt, alloc, universe, limits, &grouping.firsts)?;
+    let found = find_shared::<U>(rt, alloc, universe, limits, &grouping.firsts)?;
     tally.add(&found.tally);
     rows_for(alloc, &grouping.groups, &found)
 }

@@ -8,10 +8,10 @@ ghost use Rattle.ad_theory.specs.Tally.{IsRaisedBy};
 ghost use Rattle.ad_genuine.specs.declared.found.Found.{Found};
 ghost use Rattle.ad_genuine.specs.Found.{AreFound, rows_of_kind, runs_of};
 
-use ad_base::{Kind, Limits, Memory};
+use ad_base::{Kind, Limits, Memory, Side};
 use ad_bits::Row;
-use ad_groups::Finder;
-use ad_theory::{Extractor, Tally, Universe};
+use ad_joined::{side_rows, star_rows};
+use ad_theory::{Tally, Universe};
 use std::alloc::Global;
 use std::sync::Arc;
 
@@ -25,31 +25,7 @@ pub(crate) struct Found {
 }
 
 // Finds the genuine modules of these slots, of all three kinds.
-fn find_by<U: Universe, E: Extractor>(
-    alloc: Global,
-    universe: &U,
-    finder: &mut Finder<E>,
-    slots: &[u32],
-) -> Result<Found, Memory>
-    requires limits { AreSizesOf (E.made_for finder.old.extractor) (U.slot_count universe.now) (U.symbol_count universe.now) }
-    requires live { All (λ slot. IsTrue (U.is_live universe.now slot)) slots.now }
-    requires few { length slots.now ≤ 65536 }
-    ensures { IfOk result (AreFound (U.symbols_of universe.now) (U.is_local universe.now) (U.is_live universe.now) (U.slot_count universe.now) slots.now) }
-{
-    let mut tally = Tally::new();
-    let bottom = finder.find_all(alloc, universe, Kind::Bottom, slots, &mut tally)?;
-    let top = finder.find_all(alloc, universe, Kind::Top, slots, &mut tally)?;
-    let star = finder.find_all(alloc, universe, Kind::Star, slots, &mut tally)?;
-    Ok(Found {
-        bottom,
-        top,
-        star,
-        tally,
-    })
-}
-
-// Finds the genuine modules of these slots by an extractor of its own.
-pub(crate) fn find<U: Universe, E: Extractor>(
+pub(crate) fn find<U: Universe>(
     alloc: Global,
     universe: &U,
     limits: &Limits,
@@ -61,8 +37,16 @@ pub(crate) fn find<U: Universe, E: Extractor>(
     requires few { length slots.now ≤ 65536 }
     ensures { IfOk result (AreFound (U.symbols_of universe.now) (U.is_local universe.now) (U.is_live universe.now) (U.slot_count universe.now) slots.now) }
 {
-    let mut finder: Finder<E> = Finder::make(alloc, limits)?;
-    find_by(alloc, universe, &mut finder, slots)
+    let mut tally = Tally::new();
+    let bottom = side_rows(alloc, universe, Side::Bottom, slots, &mut tally)?;
+    let top = side_rows(alloc, universe, Side::Top, slots, &mut tally)?;
+    let star = star_rows(alloc, universe, limits, slots, &bottom, &top, &mut tally)?;
+    Ok(Found {
+        bottom,
+        top,
+        star,
+        tally,
+    })
 }
 
 // The row at a place, shared.

@@ -6,7 +6,7 @@ ghost use Rattle.ad_genuine.specs.Found.{AreFound};
 
 use crate::found::{Found, find, joined};
 use ad_base::{Limits, Memory};
-use ad_theory::{Extractor, Universe};
+use ad_theory::Universe;
 use rayon::prelude::*;
 use std::alloc::Global;
 use std::thread::Threads;
@@ -15,7 +15,7 @@ use std::thread::Threads;
 const PARTS: usize = 32;
 
 // Finds the genuine modules of these slots in parts, which threads share.
-fn find_parts<U: Universe + Sync, E: Extractor + Send>(
+fn find_parts<U: Universe + Sync>(
     rt: &(impl Threads + Sync),
     alloc: Global,
     universe: &U,
@@ -39,13 +39,13 @@ fn find_parts<U: Universe + Sync, E: Extractor + Send>(
                     × All (λ slot. IsTrue (U.is_live universe.now slot)) chunk.now × (length chunk.now ≤ 65536) }
                 ensures { IfOk result (AreFound (U.symbols_of universe.entry.now) (U.is_local universe.entry.now) (U.is_live universe.entry.now)
                     (U.slot_count universe.entry.now) chunk.now) }
-            { find::<U, E>(alloc, universe, limits, chunk) },
+            { find::<U>(alloc, universe, limits, chunk) },
         )
         .collect::<Result<Vec<Found>, Memory>>(rt, alloc)?
 }
 
 // Finds the genuine modules of these slots, in threads.
-pub(crate) fn find_shared<U: Universe + Sync, E: Extractor + Send>(
+pub(crate) fn find_shared<U: Universe + Sync>(
     rt: &(impl Threads + Sync),
     alloc: Global,
     universe: &U,
@@ -58,6 +58,6 @@ pub(crate) fn find_shared<U: Universe + Sync, E: Extractor + Send>(
     requires few { length slots.now ≤ 65536 }
     ensures { IfOk result (AreFound (U.symbols_of universe.now) (U.is_local universe.now) (U.is_live universe.now) (U.slot_count universe.now) slots.now) }
 {
-    let parts = find_parts::<U, E>(rt, alloc, universe, limits, slots)?;
+    let parts = find_parts::<U>(rt, alloc, universe, limits, slots)?;
     joined(alloc, parts)
 }

@@ -1,10 +1,12 @@
-//! Finds the modules of one side for the signatures of many axioms. A module that was found before is joined as a whole
-//! where a search meets an axiom that has it, so that a search costs what is new in it.
+//! Finds the modules for the signatures of many axioms. On a side a module that was found before is joined as a whole
+//! where a search meets an axiom that has it, so that a search costs what is new in it; and a star module is looked for
+//! within what the modules of the two sides have in common.
 #![tactic(auto)]
 
 pub use ahead::Ahead;
 pub use search::Search;
 pub use sides::side_rows;
+pub use stars::star_rows;
 pub use whole::Whole;
 
 mod ahead;
@@ -12,4 +14,5 @@ mod join;
 mod look;
 mod search;
 mod sides;
+mod stars;
 mod whole;

@@ -2,7 +2,7 @@
 use Rattle.std.proofs.Common.{◌≡◌, ℕ, length, take}
 use Rattle.ad_bits.specs.Rows.{has}
 use Rattle.ad_theory.specs.Numbers.{among}
-use Rattle.ad_groups.proofs.finder.fill.Given as goal
+use Rattle.ad_joined.proofs.stars.fill.Given as goal
 
 abbrev pub invariant-loop-symbol : goal.invariant-loop-symbol
 invariant-loop-symbol l = record {

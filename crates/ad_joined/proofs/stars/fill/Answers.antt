@@ -7,7 +7,7 @@ use Rattle.ad_bits.specs.Rows.{has}
 use Rattle.ad_theory.specs.Numbers.{among}
 use Rattle.ad_theory.proofs.Members.{either, or_left, or_right, has_get_or}
 use Rattle.ad_groups.proofs.KeyLemmas.{among_of_has}
-use Rattle.ad_groups.proofs.finder.fill.Goals as goal
+use Rattle.ad_joined.proofs.stars.fill.Goals as goal
 
 among_last : (xs : List ℕ) (x s : ℕ) → s ≡ x → among (xs ++ x ∷ []) s ≡ true
 among_last xs x s e = list_any-append (λ y. y == s) xs (x ∷ []) ∙ or_right (among xs s) (x == s || false) (or_left (x == s) false (eq-eqb x s (sym e)))
