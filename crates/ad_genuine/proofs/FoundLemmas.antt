@@ -1,31 +1,38 @@
 -- What was found in parts, put together.
-use Rattle.std.proofs.Common.{◌≡◌, ◌+◌, ◌++◌, ℕ, ◌*◌, ◌<◌, ◌≤◌, ◌^◌, Bool, List, [], ◌∷◌, length, get_or, refl, sym, subst, ap, ◌∙◌, append-nil, length-append, arith, zero, suc, inl, inr}
+use Rattle.std.proofs.Common.{◌≡◌, ◌+◌, ◌++◌, ℕ, ◌*◌, ◌<◌, ◌≤◌, ◌^◌, Bool, List, [], ◌∷◌, length, refl, sym, subst, ap, ◌∙◌, append-nil, length-append, arith, inl, inr}
 use Rattle.std.specs.List.{AllZip, flat_map, sum_by}
 use Rattle.std.proofs.lemmas.Grind.{flat_map-append}
 use Rattle.std.proofs.lemmas.List.Sums.{sum_by-append, sum_by-cons}
 use Rattle.rayon.proofs.ListFacts.{AllZip-append}
 use Rattle.ad_base.specs.declared.limits.Kind.{Kind}
+use Rattle.ad_base.specs.declared.limits.Kind.TheVariants.{Bottom, Top, Star}
+use Rattle.ad_base.specs.declared.limits.Side.TheVariants as sides
+use Rattle.ad_joined.specs.Searched.{IsSideRow}
+use Rattle.ad_theory.specs.Numbers.{logic_of}
 use Rattle.ad_base.specs.declared.limits.Side.{Side}
 use Rattle.ad_theory.specs.Tally.{IsRaisedBy}
 use Rattle.ad_genuine.specs.declared.found.Found.{Found}
 use Rattle.ad_genuine.specs.Found.{AreFound, rows_of_kind, runs_of}
 use Rattle.ad_groups.specs.GenuineRows.{IsGenuineRow}
 
--- two lists that are zipped, at a place
-pub zip_at : {X Y : Type 0} (R : X → Y → Type 0) (xs : List X) (ys : List Y) (i : ℕ) (d : X) (e : Y) → AllZip R xs ys → i < length xs → R (get_or xs i d) (get_or ys i e)
-zip_at R [] [] i d e h l = absurd (omega arith)
-zip_at R [] (y ∷ ys) i d e h l = absurd h
-zip_at R (x ∷ xs) [] i d e h l = absurd h
-zip_at R (x ∷ xs) (y ∷ ys) zero d e h l = h.0
-zip_at R (x ∷ xs) (y ∷ ys) (suc i) d e h l = zip_at R xs ys i d e h.1 (omega arith)
-
-pub zip_long : {X Y : Type 0} (R : X → Y → Type 0) (xs : List X) (ys : List Y) → AllZip R xs ys → length ys ≡ length xs
-zip_long R [] [] h = refl
-zip_long R [] (y ∷ ys) h = absurd h
-zip_long R (x ∷ xs) [] h = absurd h
-zip_long R (x ∷ xs) (y ∷ ys) h = ap suc (zip_long R xs ys h.1)
+-- two lists that are zipped by a fact are so by one that follows from it
+zip_map : {X Y : Type 0} {R S : X → Y → Type 0} → ((x : X) (y : Y) → R x y → S x y) → (xs : List X) (ys : List Y) → AllZip R xs ys → AllZip S xs ys
+zip_map f [] [] h = tt
+zip_map f [] (y ∷ ys) h = absurd h
+zip_map f (x ∷ xs) [] h = absurd h
+zip_map f (x ∷ xs) (y ∷ ys) h = (f x y h.0, zip_map f xs ys h.1)
 
 module _ (symbols : ℕ → List ℕ) (local : Side → (ℕ → Bool) → ℕ → Bool) (live : ℕ → Bool) (slots : ℕ) where
+  -- the rows of the two sides and of star modules are those of genuine modules
+  pub found_rows : (of : List ℕ) (found : Found)
+      → AllZip (IsSideRow (logic_of symbols (local sides.Bottom)) live slots) of (rows_of_kind found Bottom)
+      → AllZip (IsSideRow (logic_of symbols (local sides.Top)) live slots) of (rows_of_kind found Top)
+      → AllZip (IsGenuineRow symbols local live slots Star) of (rows_of_kind found Star)
+      → (kind : Kind) → AllZip (IsGenuineRow symbols local live slots kind) of (rows_of_kind found kind)
+  found_rows of found bottom top star Bottom = zip_map (λ slot row s. record { size = s.size; genuine = s.found }) of (rows_of_kind found Bottom) bottom
+  found_rows of found bottom top star Top = zip_map (λ slot row s. record { size = s.size; genuine = s.found }) of (rows_of_kind found Top) top
+  found_rows of found bottom top star Star = star
+
   parts_rows : (kind : Kind) (chunks : List (List ℕ)) (parts : List Found) → AllZip (AreFound symbols local live slots) chunks parts
       → AllZip (IsGenuineRow symbols local live slots kind) (flat_map (λ chunk. chunk) chunks) (flat_map (λ part. rows_of_kind part kind) parts)
   parts_rows kind [] [] h = tt

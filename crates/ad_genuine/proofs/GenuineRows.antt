@@ -14,7 +14,7 @@ use Rattle.ad_genuine.specs.Found.{AreFound, rows_of_kind}
 use Rattle.ad_groups.specs.GenuineRows.{IsGenuineRow}
 use Rattle.ad_groups.specs.Groups.{AreGroups}
 use Rattle.ad_groups.specs.Signatures.{same_members}
-use Rattle.ad_genuine.proofs.FoundLemmas.{zip_at, zip_long}
+use Rattle.ad_joined.proofs.CommonLemmas.{zip_at, zip_long}
 use Rattle.ad_groups.proofs.KeyLemmas.{same_among}
 
 -- the groups of the slots in a row whose members are the live slots

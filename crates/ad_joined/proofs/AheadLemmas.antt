@@ -1,5 +1,5 @@
 -- Tables in which one place is given.
-use Rattle.std.proofs.Common.{◌≡◌, ℕ, zero, suc, Bool, ◌⊎◌, List, [], ◌∷◌, Option, Some, None, set, get_or, replicate, IsTrue, inl, inr, refl, sym, subst, ap, ◌∙◌}
+use Rattle.std.proofs.Common.{◌≡◌, ℕ, zero, suc, Bool, ◌⊎◌, List, [], ◌∷◌, Option, Some, None, set, get_or, replicate, inl, inr, refl, sym, subst, ap, ◌∙◌}
 use Rattle.ad_bits.specs.Rows.{has}
 use Rattle.ad_theory.specs.Module.{Logic, IsAntitone}
 use Rattle.ad_joined.specs.Searched.{IsSearchedRow, IsSideRow}

@@ -1,5 +1,5 @@
 -- Joining a module that was found before.
-use Rattle.std.proofs.Common.{◌≡◌, ℕ, ◌<◌, ◌≤◌, Bool, ◌||◌, List, ◌⊎◌, ◌↔◌, IsTrue, IsFalse, inl, inr, sym, subst, ap, ◌∙◌, arith}
+use Rattle.std.proofs.Common.{◌≡◌, ℕ, ◌<◌, Bool, ◌||◌, List, ◌⊎◌, IsTrue, IsFalse, inl, inr, sym, subst, ap, ◌∙◌, arith}
 use Rattle.ad_bits.specs.Rows.{has, member_count, union, IsSubset}
 use Rattle.ad_bits.proofs.Rows.{has-union, member_count-subset}
 use Rattle.ad_extract.specs.Waiting.{IsWaiting}

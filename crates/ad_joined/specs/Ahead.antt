@@ -1,5 +1,5 @@
 -- What was found so far for some slots.
-use Rattle.std.specs.Prelude.{◌≡◌, ◌<◌, ℕ, Bool, List, None, Some, length, slice_index_or}
+use Rattle.std.specs.Prelude.{◌≡◌, ℕ, Bool, List, None, Some, length, slice_index_or}
 use Rattle.ad_tables.specs.Rows.{rows_in}
 use Rattle.ad_theory.specs.Module.{Logic}
 use Rattle.ad_joined.specs.Searched.{IsSideRow}

@@ -1,6 +1,6 @@
 -- Modules that were found before, for signatures of axioms.
 use Rattle.std.specs.Prelude.{◌≡◌, ◌<◌, ℕ, Bool, List, Option, Some, None, ◌⊎◌, IsTrue, IsFalse, slice_index_or}
-use Rattle.ad_bits.specs.Rows.{has, member_count}
+use Rattle.ad_bits.specs.Rows.{member_count}
 use Rattle.ad_theory.specs.Module.{Logic}
 use Rattle.ad_joined.specs.Searched.{IsSearchedRow}
 use Rattle.ad_joined.specs.declared.whole.Whole.{Whole}

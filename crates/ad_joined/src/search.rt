@@ -67,9 +67,7 @@ fn look_and_join<U: Universe>(
     ensures reached { length reached.new ≡ length reached.old }
     ensures left { length left.new ≡ length left.old }
 {
-    if let Some(whole) =
-        look_at_each(universe, side, slots, wholes, pending, out, reached, tally)
-    {
+    if let Some(whole) = look_at_each(universe, side, slots, wholes, pending, out, reached, tally) {
         join(whole, pending, out, reached, left);
     }
 }
@@ -106,10 +104,14 @@ fn run<U: Universe>(
     pending.clear();
     reach_all(pending, reached, universe.signature(slot));
     let global = universe.global(side);
-    look_and_join(universe, side, global, wholes, pending, out, reached, left, tally);
+    look_and_join(
+        universe, side, global, wholes, pending, out, reached, left, tally,
+    );
     'waiting: while let Some(symbol) = pending.pop() {
         let occurs = universe.occurs(symbol);
-        look_and_join(universe, side, occurs, wholes, pending, out, reached, left, tally);
+        look_and_join(
+            universe, side, occurs, wholes, pending, out, reached, left, tally,
+        );
     }
 }
 

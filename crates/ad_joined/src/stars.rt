@@ -161,7 +161,13 @@ fn rows_by<U: Universe>(
 {
     let mut rows = Vec::with_capacity(alloc, slots.len())?;
     for at in 0..slots.len() {
-        stars.find(universe, slots[at], row_at(bottom, at), row_at(top, at), tally);
+        stars.find(
+            universe,
+            slots[at],
+            row_at(bottom, at),
+            row_at(top, at),
+            tally,
+        );
         let row = shared(alloc, &stars.out)?;
         rows.push(row)?;
     }

@@ -1,5 +1,5 @@
 -- What waits of the symbols that are left waits of all.
-use Rattle.std.proofs.Common.{◌∙◌, sym}
+use Rattle.std.proofs.Common.{◌∙◌}
 use Rattle.ad_theory.proofs.Members.{or_left}
 use Rattle.ad_joined.proofs.Joins.{waiting_more}
 use Rattle.ad_joined.proofs.join.join.Goals as goal

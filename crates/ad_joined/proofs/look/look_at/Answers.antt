@@ -1,5 +1,5 @@
 -- An axiom that is needed and has a module that was found before, or that is taken.
-use Rattle.std.proofs.Common.{◌≡◌, ◌<◌, ℕ, ◌&&◌, not, false, IsTrue, IsFalse, length, inl, sym, ap, ◌∙◌, arith}
+use Rattle.std.proofs.Common.{◌<◌, ◌&&◌, not, IsTrue, IsFalse, length, inl, sym, ap, ◌∙◌, arith}
 use Rattle.ad_bits.specs.Rows.{has, member_count}
 use Rattle.ad_bits.proofs.Rows.{member_count-set}
 use Rattle.ad_theory.proofs.Members.{and_left, and_right, not_true}

@@ -1,9 +1,9 @@
 -- Each symbol that is popped settles: the axioms in which it stands are looked at, and all others stay local.
-use Rattle.std.proofs.Common.{◌≡◌, ◌≢◌, ◌∙◌, ℕ, ◌+◌, ◌-◌, ◌*◌, ◌<◌, ◌≤◌, ◌⊎◌, Bool, false, IsTrue, List, [], ◌∷◌, ◌++◌, inl, inr, refl, sym, subst, ap, length, length-append, arith}
+use Rattle.std.proofs.Common.{◌≡◌, ◌∙◌, ℕ, ◌+◌, ◌<◌, ◌≤◌, Bool, IsTrue, [], ◌∷◌, inl, inr, sym, subst, ap, length, length-append, arith}
 use Rattle.ad_bits.specs.Rows.{has, member_count}
 use Rattle.ad_bits.proofs.Rows.{within_size, member_count-le}
 use Rattle.ad_theory.specs.Numbers.{among, logic_of}
-use Rattle.ad_theory.proofs.Members.{either, not_both}
+use Rattle.ad_theory.proofs.Members.{not_both}
 use Rattle.ad_theory.proofs.SweepLemmas.{gathered_begins}
 use Rattle.ad_extract.specs.Waiting.{settled}
 use Rattle.ad_extract.proofs.WaitingLemmas.{pops, popped_reached, popped_other}
@@ -57,9 +57,9 @@ look_and_join-requires-in-Some-clause-rest g c i o =
       | inl t ↦ inr (inl t)
       | inr h ↦ elim (stays_local symbols local (g.met.U.Universe.antitone u c.args.side) (settled c.waiting.pending.items c.waiting.reached) (settled c.pop.new.self.items c.waiting.reached) s i
           (popped_other c.waiting.pending.items c.pop.new.self.items c.waiting.reached s c.in-Some.ensures.items v.waiting) h) [
-        | inl a ↦ inl (subst (λ l. IsTrue (among l i)) (sym c.occurs-occurs.ensures) ((g.met.U.Universe.occurrences u s i).1 (o, a)))
-        | inr h' ↦ inr (inr h')
-      ]
+            | inl a ↦ inl (subst (λ l. IsTrue (among l i)) (sym c.occurs-occurs.ensures) ((g.met.U.Universe.occurrences u s i).1 (o, a)))
+            | inr h' ↦ inr (inr h')
+          ]
     ]
 
 pub waiting-smaller : goal.waiting-smaller

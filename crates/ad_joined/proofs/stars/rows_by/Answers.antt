@@ -1,5 +1,5 @@
 -- One more row is found.
-use Rattle.std.proofs.Common.{◌≡◌, ◌<◌, Bool, List, [], ◌∷◌, ◌++◌, Global, map, take, get_or, length, inl, inr, sym, subst, ap, ◌∙◌, arith, rules}
+use Rattle.std.proofs.Common.{◌≡◌, Bool, List, [], ◌∷◌, ◌++◌, Global, map, take, get_or, inl, inr, sym, subst, ap, ◌∙◌, arith, rules}
 use Rattle.std.specs.Arc.{arc_value}
 use Rattle.std.specs.List.{AllZip}
 use Rattle.std.specs.declared.sync.Arc.{Arc}
@@ -13,7 +13,6 @@ use Rattle.ad_theory.specs.Numbers.{logic_of, AreSizesOf}
 use Rattle.ad_joined.specs.Searched.{IsSideRow}
 use Rattle.ad_joined.proofs.CommonLemmas.{zip_at, zip_long}
 use Rattle.ad_joined.proofs.stars.rows_by.Goals as goal
-
 
 pub row_at-requires : goal.row_at-requires
 row_at-requires g c =

@@ -1,5 +1,5 @@
 -- Each round takes the top module of what was found, and the bottom module of that; it ends where one of them is all.
-use Rattle.std.proofs.Common.{◌≡◌, ℕ, ◌≤◌, ◌<◌, IsTrue, sym, subst, arith, ap, refl, ◌∙◌}
+use Rattle.std.proofs.Common.{◌≡◌, ℕ, ◌≤◌, ◌<◌, IsTrue, sym, subst, arith, refl, ◌∙◌}
 use Rattle.ad_base.specs.declared.limits.Side.TheVariants.{Bottom, Top}
 use Rattle.ad_bits.specs.Rows.{has, member_count, IsSubset}
 use Rattle.ad_bits.proofs.Rows.{member_count-subset}

@@ -1,5 +1,5 @@
 -- The row was found before, or is found now.
-use Rattle.std.proofs.Common.{◌≡◌, None, Some, get_or, sym, ap, ◌∙◌, length}
+use Rattle.std.proofs.Common.{None, get_or, sym, ap, ◌∙◌, length}
 use Rattle.std.specs.Arc.{arc_value}
 use Rattle.std.specs.Option.{option_map}
 use Rattle.ad_tables.specs.Rows.{rows_in}
