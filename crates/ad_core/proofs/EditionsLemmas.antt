@@ -7,21 +7,21 @@ use Rattle.ad_tree.specs.declared.edits.Op.{Op}
 use Rattle.ad_edition.specs.Apply.{applied}
 use Rattle.ad_edition.specs.Log.{Logged, Shown, count_of, next_entry, replay, defined_by}
 use Rattle.ad_edition.specs.Limit.{Passed}
-use Rattle.ad_edition.specs.Edition.{Held, IsEditionOf, first_of_all, next_edition, passed_by}
+use Rattle.ad_edition.specs.Edition.{Limited, IsEditionOf, first_of_all, next_edition, passed_by}
 use Rattle.ad_edition.proofs.LogLemmas.{GoesOn-push, replay-push}
 use Rattle.ad_edition.specs.State.{State, at_first, ticket_of, after_commit, first_passed}
 use Rattle.ad_edition.specs.Editions.{AreEditionsOf}
 use Rattle.ad_edition.specs.Events.{Event, Editions, Follow, AreEnabled, after, after_all, next_editions, all_editions, first_editions, unless_passed}
 
 -- a log has one edition
-pub edition_is : (limits : Limits) (log : List Logged) (edition : Held) → IsEditionOf limits log edition → edition ≡ record { shown = defined_by log; limits = limits }
+pub edition_is : (limits : Limits) (log : List Logged) (edition : Limited) → IsEditionOf limits log edition → edition ≡ record { shown = defined_by log; limits = limits }
 edition_is limits log edition is = λ i. record { shown = is.shown i; limits = is.limited i }
 
-pub number_is : (limits : Limits) (log : List Logged) (edition : Held) → IsEditionOf limits log edition → edition.shown.number ≡ length log
+pub number_is : (limits : Limits) (log : List Logged) (edition : Limited) → IsEditionOf limits log edition → edition.shown.number ≡ length log
 number_is limits log edition is = ap (λ (shown : Shown). shown.number) is.shown
 
 -- the edition after one more entry
-pub IsEditionOf-next : (limits : Limits) (log : List Logged) (entry : Logged) (edition : Held) → IsEditionOf limits log edition → IsEditionOf limits (log ++ entry ∷ []) (next_edition edition entry.batch)
+pub IsEditionOf-next : (limits : Limits) (log : List Logged) (entry : Logged) (edition : Limited) → IsEditionOf limits log edition → IsEditionOf limits (log ++ entry ∷ []) (next_edition edition entry.batch)
 IsEditionOf-next limits log entry edition is =
     let number : edition.shown.number + 1 ≡ length (log ++ entry ∷ []) = ap (λ n. n + 1) (number_is limits log edition is) ∙ sym (length_push log entry) in
     let axioms : applied edition.shown.axioms entry.batch ≡ replay (log ++ entry ∷ []) = ap (λ (shown : Shown). applied shown.axioms entry.batch) is.shown ∙ sym (replay-push log entry) in
@@ -37,11 +37,11 @@ AreEditionsOf-first limits sessions = record {
       let in_range : session < sessions = omega (arith, length-replicate {A = ℕ} sessions 0) in
       let none : get_or (replicate sessions 0) session 0 ≡ 0 = get_or-replicate {A = ℕ} sessions session 0 0 in_range in
       let first : get_or (replicate sessions (first_of_all limits)) session d ≡ first_of_all limits = get_or-replicate sessions session (first_of_all limits) d in_range in
-      subst (λ (e : Held). IsEditionOf limits (take (get_or (replicate sessions 0) session 0) []) e) (sym first) (subst (λ n. IsEditionOf limits (take n []) (first_of_all limits)) (sym none) (record { shown = refl; limited = refl }));
+      subst (λ (e : Limited). IsEditionOf limits (take (get_or (replicate sessions 0) session 0) []) e) (sym first) (subst (λ n. IsEditionOf limits (take n []) (first_of_all limits)) (sym none) (record { shown = refl; limited = refl }));
 }
 
 -- one more entry
-pub AreEditionsOf-commit : (limits : Limits) (log : List Logged) (entered : List ℕ) (newest : Held) (seen : List Held) (entry : Logged) → entry.sequence ≡ count_of log entry.ticket + 1 → AreEditionsOf limits log entered newest seen → AreEditionsOf limits (log ++ entry ∷ []) entered (next_edition newest entry.batch) seen
+pub AreEditionsOf-commit : (limits : Limits) (log : List Logged) (entered : List ℕ) (newest : Limited) (seen : List Limited) (entry : Logged) → entry.sequence ≡ count_of log entry.ticket + 1 → AreEditionsOf limits log entered newest seen → AreEditionsOf limits (log ++ entry ∷ []) entered (next_edition newest entry.batch) seen
 AreEditionsOf-commit limits log entered newest seen entry next are = record {
   is_log = GoesOn-push [] log entry are.is_log next;
   newest_is = IsEditionOf-next limits log entry newest are.newest_is;
@@ -51,10 +51,10 @@ AreEditionsOf-commit limits log entered newest seen entry next are = record {
 }
 
 -- a session takes the newest edition
-pub AreEditionsOf-enter : (limits : Limits) (log : List Logged) (entered : List ℕ) (newest : Held) (seen : List Held) (at : ℕ) → AreEditionsOf limits log entered newest seen → AreEditionsOf limits log (set entered at (length log)) newest (set seen at newest)
+pub AreEditionsOf-enter : (limits : Limits) (log : List Logged) (entered : List ℕ) (newest : Limited) (seen : List Limited) (at : ℕ) → AreEditionsOf limits log entered newest seen → AreEditionsOf limits log (set entered at (length log)) newest (set seen at newest)
 AreEditionsOf-enter limits log entered newest seen at are =
     let IsIn : ℕ → ℕ → Type 0 = λ session n. n ≤ length log in
-    let IsSeen : ℕ → Held → Type 0 = λ n edition. IsEditionOf limits (take n log) edition in
+    let IsSeen : ℕ → Limited → Type 0 = λ n edition. IsEditionOf limits (take n log) edition in
     let all : IsSeen (length log) newest = subst (λ front. IsEditionOf limits front newest) (sym (take_all (length log) log (omega arith))) are.newest_is in
     record {
       is_log = are.is_log;
@@ -85,7 +85,7 @@ follow-commits : (machine : State) (editions : Editions) (session : ℕ) (batch 
 follow-commits machine editions session batch follow =
     let entry = next_entry machine.log (ticket_of session) batch in
     let New : Option Passed → Option Passed → Type 0 = λ p q. Follow (unless_passed p machine (after_commit machine session batch)) (unless_passed q editions (record editions { newest = next_edition editions.newest batch })) in
-    let same_limit : passed_by editions.newest batch ≡ first_passed machine batch = ap (λ (e : Held). passed_by e batch) (edition_is machine.limits machine.log editions.newest follow.newest_is) in
+    let same_limit : passed_by editions.newest batch ≡ first_passed machine batch = ap (λ (e : Limited). passed_by e batch) (edition_is machine.limits machine.log editions.newest follow.newest_is) in
     subst (New (first_passed machine batch)) (sym same_limit) (elim (first_passed machine batch) as (λ p. New p p) [
       | None ↦ AreEditionsOf-commit machine.limits machine.log machine.entered editions.newest editions.seen entry refl follow
       | Some p ↦ follow

@@ -4,36 +4,36 @@ use Rattle.std.specs.Option.{option_map}
 use Rattle.std.specs.Arc.{arc_value}
 use Rattle.std.specs.declared.sync.Arc.{Arc}
 use Rattle.ad_edition.specs.Log.{Logged, count_of}
-use Rattle.ad_edition.specs.Edition.{Held}
+use Rattle.ad_edition.specs.Edition.{Limited}
 use Rattle.ad_edition.specs.State.{State}
 use Rattle.ad_edition.specs.Editions.{AreEditionsOf}
 
 -- the editions of their owners
-abbrev pub editions_in : {Z : Type 0} → List (Arc Held Z) → List Held
-editions_in {Z} owners = map (λ (owner : Arc Held Z). arc_value owner) owners
+abbrev pub editions_in : {Z : Type 0} → List (Arc Limited Z) → List Limited
+editions_in {Z} owners = map (λ (owner : Arc Limited Z). arc_value owner) owners
 
-abbrev pub waiting_in : {Z : Type 0} → List (Option (Arc Held Z)) → List (Option Held)
-waiting_in {Z} waiting = map (option_map (λ (owner : Arc Held Z). arc_value owner)) waiting
+abbrev pub waiting_in : {Z : Type 0} → List (Option (Arc Limited Z)) → List (Option Limited)
+waiting_in {Z} waiting = map (option_map (λ (owner : Arc Limited Z). arc_value owner)) waiting
 
 -- a session has entered as many entries as its edition's number says
-abbrev pub numbers_of : List Held → List ℕ
-numbers_of seen = map (λ (edition : Held). edition.shown.number) seen
+abbrev pub numbers_of : List Limited → List ℕ
+numbers_of seen = map (λ (edition : Limited). edition.shown.number) seen
 
 -- the machine with these editions
-abbrev pub state_in : List Logged → Held → List Held → ℕ → ℕ → State
+abbrev pub state_in : List Logged → Limited → List Limited → ℕ → ℕ → State
 state_in log newest seen session looks = record { log = log; entered = numbers_of seen; limits = newest.limits; session = session; looks = looks }
 
 -- what waits for a session is the newest edition, and where nothing waits the session has entered it
-abbrev pub Awaits : Option Held → Held → Held → Type 0
+abbrev pub Awaits : Option Limited → Limited → Limited → Type 0
 Awaits None seen newest = seen.shown.number ≡ newest.shown.number
 Awaits (Some edition) seen newest = edition ≡ newest
 
-pub record IsKept (log : List Logged) (newest : Held) (seen : List Held) (waiting : List (Option Held)) (edits : List ℕ) (session workers : ℕ) : Type 0 where
+pub record IsKept (log : List Logged) (newest : Limited) (seen : List Limited) (waiting : List (Option Limited)) (edits : List ℕ) (session workers : ℕ) : Type 0 where
   pub editions : AreEditionsOf newest.limits log (numbers_of seen) newest seen
   pub some : 1 ≤ length seen
   pub few : length seen ≤ 8
   pub waiting_count : length waiting ≡ length seen
-  pub awaits : (at : ℕ) (d : Held) → at < length seen → Awaits (slice_index_or waiting at None) (slice_index_or seen at d) newest
+  pub awaits : (at : ℕ) (d : Limited) → at < length seen → Awaits (slice_index_or waiting at None) (slice_index_or seen at d) newest
   pub edit_count : length edits ≡ length seen
   pub counted : (at : ℕ) → at < length seen → slice_index edits at ≡ count_of log (at + 1)
   pub looking : session < length seen

@@ -16,7 +16,7 @@ use Rattle.ad_edition.specs.declared.receipts.Refused.TheVariants as refusals
 use Rattle.ad_edition.specs.Apply.{applied}
 use Rattle.ad_syntax_laws.specs.OntologyModule.{logical}
 use Rattle.ad_edition.specs.Limit.{Passed, first_of, passed_with, Names}
-use Rattle.ad_edition.specs.Edition.{Held, held, IsSound, IsRefusal}
+use Rattle.ad_edition.specs.Edition.{Limited, limited_edition, IsSound, IsRefusal}
 use Rattle.ad_edition.proofs.LogLemmas.{distinct-applied}
 
 -- at most all axioms are logical
@@ -25,7 +25,7 @@ length-logical ontology =
     omega (arith, length-filter_both (λ a. is_logical a.axiom) (λ a. not (is_logical a.axiom)) (λ _. refl) ontology)
 
 -- the edition without axioms is sound
-pub IsSound-empty : (limits : Limits) → AreWithinStandard limits → IsSound (held 0 [] limits) 0 12
+pub IsSound-empty : (limits : Limits) → AreWithinStandard limits → IsSound (limited_edition 0 [] limits) 0 12
 unfolding IsDistinct
 IsSound-empty limits w = record {
   distinct = tt;
@@ -38,12 +38,12 @@ IsSound-empty limits w = record {
 }
 
 -- the count beside an edition, seen as the edition is seen
-pub counted_as : (e seen : Held) (count bytes : ℕ) → IsSound e count bytes → e ≡ seen → count ≡ length (logical seen.shown.axioms)
-counted_as e seen count bytes s is = s.counted ∙ ap (λ (e : Held). length (logical e.shown.axioms)) is
+pub counted_as : (e seen : Limited) (count bytes : ℕ) → IsSound e count bytes → e ≡ seen → count ≡ length (logical seen.shown.axioms)
+counted_as e seen count bytes s is = s.counted ∙ ap (λ (e : Limited). length (logical e.shown.axioms)) is
 
 -- and so the length of its document
-pub measured_as : (e seen : Held) (count bytes : ℕ) → IsSound e count bytes → e ≡ seen → bytes ≡ length (canon_document seen.shown.axioms)
-measured_as e seen count bytes s is = s.measured ∙ ap (λ (e : Held). length (canon_document e.shown.axioms)) is
+pub measured_as : (e seen : Limited) (count bytes : ℕ) → IsSound e count bytes → e ≡ seen → bytes ≡ length (canon_document seen.shown.axioms)
+measured_as e seen count bytes s is = s.measured ∙ ap (λ (e : Limited). length (canon_document e.shown.axioms)) is
 
 first_none : (b : Bool) (p : Passed) (later : Option Passed) → cond b (Some p) later ≡ None → (b ≡ false) × (later ≡ None)
 first_none true p later e = absurd (let h : Some p ≡ None = e in cc)
@@ -53,7 +53,7 @@ not_above : (limit count : ℕ) → nat_lt limit count ≡ false → count ≤ l
 not_above limit count e = omega (arith, ltb-false limit count e)
 
 -- the next edition is sound where no limit is passed
-pub IsSound-next : (number count bytes count_before bytes_before : ℕ) (limits : Limits) (old after : List Noted) (ops : List Op) → IsSound (held number old limits) count_before bytes_before → after ≡ applied old ops → count ≡ length (logical after) → bytes ≡ length (canon_document after) → passed_with limits number count ≡ None → length after ≤ 4294967295 → IsSound (held (number + 1) after limits) count bytes
+pub IsSound-next : (number count bytes count_before bytes_before : ℕ) (limits : Limits) (old after : List Noted) (ops : List Op) → IsSound (limited_edition number old limits) count_before bytes_before → after ≡ applied old ops → count ≡ length (logical after) → bytes ≡ length (canon_document after) → passed_with limits number count ≡ None → length after ≤ 4294967295 → IsSound (limited_edition (number + 1) after limits) count bytes
 IsSound-next number count bytes count_before bytes_before limits old after ops sound is counted measured free few =
     let first = first_none (nat_lt limits.axioms count) (record { which = which.Axioms; count = count }) (first_of which.Editions limits.editions (number + 1) None) free in
     let second = first_none (nat_lt limits.editions (number + 1)) (record { which = which.Editions; count = number + 1 }) None first.1 in
@@ -68,7 +68,7 @@ IsSound-next number count bytes count_before bytes_before limits old after ops s
     }
 
 -- an answer that names the limit passed by so many axioms refuses the batch
-pub refusal : (edition : Held) (batch : List Op) (limits : Limits) (number count : ℕ) (cause : Refused) → limits ≡ edition.limits → number ≡ edition.shown.number → count ≡ length (logical (applied edition.shown.axioms batch)) → Names (passed_with limits number count) number (Err cause) → IsRefusal edition batch cause
+pub refusal : (edition : Limited) (batch : List Op) (limits : Limits) (number count : ℕ) (cause : Refused) → limits ≡ edition.limits → number ≡ edition.shown.number → count ≡ length (logical (applied edition.shown.axioms batch)) → Names (passed_with limits number count) number (Err cause) → IsRefusal edition batch cause
 refusal edition batch limits number count (refusals.Limit at which' count') limited numbered counted names =
     (names.0 ∙ numbered, sym (ap (λ (l : Limits). passed_with l number count) limited ∙ ap (λ n. passed_with edition.limits n count) numbered ∙ ap (λ n. passed_with edition.limits edition.shown.number n) counted) ∙ names.1)
 refusal edition batch limits number count refusals.Memory limited numbered counted names = tt

@@ -19,26 +19,26 @@ use Rattle.ad_edition.specs.declared.receipts.Receipt.{Receipt}
 use Rattle.ad_edition.specs.declared.receipts.Refused.{Refused}
 use Rattle.ad_edition.specs.declared.receipts.Refused.TheVariants as refusals
 
--- an edition: what it shows, and the limits that it and its successors keep to
-pub record Held : Type 0 where
+-- what an edition shows, and the limits that it and its successors keep to
+pub record Limited : Type 0 where
   pub shown : Shown
   pub limits : Limits
 
-abbrev pub held : ℕ → List Noted → Limits → Held
-held number axioms limits = record { shown = record { number = number; axioms = axioms }; limits = limits }
+abbrev pub limited_edition : ℕ → List Noted → Limits → Limited
+limited_edition number axioms limits = record { shown = record { number = number; axioms = axioms }; limits = limits }
 
 -- the edition with these limits that a log defines
-pub record IsEditionOf (limits : Limits) (log : List Logged) (edition : Held) : Type 0 where
+pub record IsEditionOf (limits : Limits) (log : List Logged) (edition : Limited) : Type 0 where
   pub shown : edition.shown ≡ defined_by log
   pub limited : edition.limits ≡ limits
 
 -- the first edition: number 0, without axioms
-abbrev pub first_of_all : Limits → Held
+abbrev pub first_of_all : Limits → Limited
 first_of_all limits = record { shown = defined_by []; limits = limits }
 
 -- what the type of editions keeps, of the edition, of the count of logical axioms beside it, and of the length of its
 -- document
-pub record IsSound (edition : Held) (count bytes : ℕ) : Type 0 where
+pub record IsSound (edition : Limited) (count bytes : ℕ) : Type 0 where
   pub distinct : IsDistinct same_axiom edition.shown.axioms
   pub counted : count ≡ length (logical edition.shown.axioms)
   pub measured : bytes ≡ length (canon_document edition.shown.axioms)
@@ -49,26 +49,26 @@ pub record IsSound (edition : Held) (count bytes : ℕ) : Type 0 where
 
 -- an edition that is about to follow another, with what the batch did and the batch itself
 pub record Drafted : Type 0 where
-  pub next : Held
+  pub next : Limited
   pub counts : Counts
   pub batch : List Op
 
-abbrev pub drafted_of : Held → Counts → List Op → Drafted
+abbrev pub drafted_of : Limited → Counts → List Op → Drafted
 drafted_of next counts batch = record { next = next; counts = counts; batch = batch }
 
 -- the edition after a batch
-abbrev pub next_edition : Held → List Op → Held
+abbrev pub next_edition : Limited → List Op → Limited
 next_edition edition batch = record { shown = record { number = edition.shown.number + 1; axioms = applied edition.shown.axioms batch }; limits = edition.limits }
 
-abbrev pub drafted : Held → List Op → Drafted
+abbrev pub drafted : Limited → List Op → Drafted
 drafted edition batch = record { next = next_edition edition batch; counts = counts_of edition.shown.axioms batch; batch = batch }
 
 -- the first limit that the batch passes on this edition
-abbrev pub passed_by : Held → List Op → Option Passed
+abbrev pub passed_by : Limited → List Op → Option Passed
 passed_by edition batch = passed edition.limits edition.shown.number (applied edition.shown.axioms batch)
 
 -- why a batch is refused on this edition: it passes a limit, the first of them, or memory is wanting
-abbrev pub IsRefusal : Held → List Op → Refused → Type 0
+abbrev pub IsRefusal : Limited → List Op → Refused → Type 0
 IsRefusal edition batch (refusals.Limit number which count) = (number ≡ edition.shown.number) × (passed_by edition batch ≡ Some (record { which = which; count = count }))
 IsRefusal edition batch refusals.Memory = Unit {0}
 
@@ -77,11 +77,11 @@ abbrev pub receipt_of : ℕ → Counts → Receipt
 receipt_of number counts = record { number = number; added = counts.added; already = counts.already; removed = counts.removed; absent = counts.absent }
 
 -- an edition is told apart by its number, its axioms and its limits
-abbrev pub held_code : Coded Held
-held_code =
-    code_by (ℕ × (List Noted × Limits)) (coded× coded_ℕ (coded× (coded_list noted_row.the_row.coded) limits_row.the_row.coded)) (λ e. (e.shown.number, (e.shown.axioms, e.limits))) (λ p. held p.0 p.1.0 p.1.1) (λ _. refl)
+abbrev pub limited_code : Coded Limited
+limited_code =
+    code_by (ℕ × (List Noted × Limits)) (coded× coded_ℕ (coded× (coded_list noted_row.the_row.coded) limits_row.the_row.coded)) (λ e. (e.shown.number, (e.shown.axioms, e.limits))) (λ p. limited_edition p.0 p.1.0 p.1.1) (λ _. refl)
 
 -- a draft, by its edition, its four counts and its batch
 abbrev pub drafted_code : Coded Drafted
 drafted_code =
-    code_by (Held × (ℕ × (ℕ × (ℕ × (ℕ × List Op))))) (coded× held_code (coded× coded_ℕ (coded× coded_ℕ (coded× coded_ℕ (coded× coded_ℕ (coded_list op_row.the_row.coded)))))) (λ d. (d.next, (d.counts.added, (d.counts.already, (d.counts.removed, (d.counts.absent, d.batch)))))) (λ p. record { next = p.0; counts = record { added = p.1.0; already = p.1.1.0; removed = p.1.1.1.0; absent = p.1.1.1.1.0 }; batch = p.1.1.1.1.1 }) (λ _. refl)
+    code_by (Limited × (ℕ × (ℕ × (ℕ × (ℕ × List Op))))) (coded× limited_code (coded× coded_ℕ (coded× coded_ℕ (coded× coded_ℕ (coded× coded_ℕ (coded_list op_row.the_row.coded)))))) (λ d. (d.next, (d.counts.added, (d.counts.already, (d.counts.removed, (d.counts.absent, d.batch)))))) (λ p. record { next = p.0; counts = record { added = p.1.0; already = p.1.1.0; removed = p.1.1.1.0; absent = p.1.1.1.1.0 }; batch = p.1.1.1.1.1 }) (λ _. refl)

@@ -3,7 +3,7 @@ use Rattle.std.specs.Prelude.{ℕ, ◌<◌, List, [], ◌∷◌, Option, None, S
 use Rattle.ad_base.specs.declared.limits.Limits.{Limits}
 use Rattle.ad_tree.specs.declared.edits.Op.{Op}
 use Rattle.ad_edition.specs.Limit.{Passed}
-use Rattle.ad_edition.specs.Edition.{Held, first_of_all, next_edition, passed_by}
+use Rattle.ad_edition.specs.Edition.{Limited, first_of_all, next_edition, passed_by}
 use Rattle.ad_edition.specs.State.{State, at_first, after_commit, after_enter, first_passed}
 use Rattle.ad_edition.specs.Editions.{AreEditionsOf}
 
@@ -36,8 +36,8 @@ AreEnabled machine (event ∷ events) = IsEnabled machine event × AreEnabled (a
 
 -- the newest edition, and for each session the one that it has entered
 pub record Editions : Type 0 where
-  pub newest : Held
-  pub seen : List Held
+  pub newest : Limited
+  pub seen : List Limited
 
 -- The editions, each made of the one before: an edit applies its batch to the newest one, and a session that enters
 -- takes the newest one.

@@ -8,7 +8,7 @@ use Rattle.ad_tree.specs.declared.edits.Op.{Op}
 use Rattle.ad_edition.specs.Apply.{counts_of}
 use Rattle.ad_edition.specs.Log.{Logged, logged_code, IsLog, next_entry, replay, defined_by}
 use Rattle.ad_edition.specs.Limit.{Passed}
-use Rattle.ad_edition.specs.Edition.{Held, IsRefusal, passed_by, receipt_of}
+use Rattle.ad_edition.specs.Edition.{Limited, IsRefusal, passed_by, receipt_of}
 use Rattle.ad_edition.specs.declared.receipts.Receipt.{Receipt}
 use Rattle.ad_edition.specs.declared.receipts.Refused.{Refused}
 
@@ -40,7 +40,7 @@ abbrev pub at_first : Limits → ℕ → State
 at_first limits sessions = record { log = []; entered = replicate sessions 0; limits = limits; session = 0; looks = 0 }
 
 -- the newest edition, that of the whole log
-abbrev pub newest_of : State → Held
+abbrev pub newest_of : State → Limited
 newest_of machine = record { shown = defined_by machine.log; limits = machine.limits }
 
 -- the front of the log that a session has entered

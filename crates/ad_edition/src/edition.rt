@@ -33,15 +33,15 @@ pub struct Edition {
 impl Model for Edition {
     ghost use Rattle.std.specs.Prelude.{map};
     ghost use Rattle.std.specs.Arc.{arc_value};
-    ghost use Rattle.ad_edition.specs.Edition.{Held, held, held_code, IsSound};
+    ghost use Rattle.ad_edition.specs.Edition.{Limited, limited_edition, limited_code, IsSound};
 
-    ghost Value = { Held };
+    ghost Value = { Limited };
 
-    ghost coded = { held_code };
+    ghost coded = { limited_code };
 
-    ghost view = { λ e. held e.number (map (λ a. arc_value a) e.axioms.items) e.limits };
+    ghost view = { λ e. limited_edition e.number (map (λ a. arc_value a) e.axioms.items) e.limits };
 
-    ghost invariant = { λ e. IsSound (held e.number (map (λ a. arc_value a) e.axioms.items) e.limits) e.count e.bytes };
+    ghost invariant = { λ e. IsSound (limited_edition e.number (map (λ a. arc_value a) e.axioms.items) e.limits) e.count e.bytes };
 }
 
 impl Edition {

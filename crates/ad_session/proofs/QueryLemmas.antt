@@ -8,7 +8,7 @@ use Rattle.ad_request.specs.declared.request.Request.{Request}
 use Rattle.ad_request.specs.declared.request.Request.TheVariants.{Module, Export}
 use Rattle.ad_items.specs.Items.{Item}
 use Rattle.ad_edition.specs.Log.{Logged, Shown, defined_by, replay}
-use Rattle.ad_edition.specs.Edition.{Held, IsEditionOf}
+use Rattle.ad_edition.specs.Edition.{Limited, IsEditionOf}
 use Rattle.ad_edition.specs.Sight.{Sight, Footing, LookIs}
 use Rattle.ad_edition.specs.declared.look.NoLook.{NoLook}
 use Rattle.ad_edition.specs.declared.look.NoLook.TheVariants as failed
@@ -24,11 +24,11 @@ use Rattle.ad_session.specs.LookAnswers.{Looks}
 use Rattle.ad_session.specs.Turns.{Speaks, PutsModuleOrRefuses, refusal_of}
 
 -- the edition at hand is that of the log entered
-edition_shows : (limits : Limits) (log : List Logged) (new : Sight) (edition : Held) → IsEditionOf limits log edition → log ≡ new.entered → edition.shown ≡ defined_by new.entered
+edition_shows : (limits : Limits) (log : List Logged) (new : Sight) (edition : Limited) → IsEditionOf limits log edition → log ≡ new.entered → edition.shown ≡ defined_by new.entered
 edition_shows limits log new edition is e = is.shown ∙ ap defined_by e
 
 -- a whole ontology
-pub export_speaks : (depth : ℕ) (footing : Footing) (old new : Sight) (limits : Limits) (log : List Logged) (edition : Held) (i : Item) (before after : Option (List ℕ)) (w : Wrote)
+pub export_speaks : (depth : ℕ) (footing : Footing) (old new : Sight) (limits : Limits) (log : List Logged) (edition : Limited) (i : Item) (before after : Option (List ℕ)) (w : Wrote)
     → i.asked ≡ Some Export → Looks footing old new → IsEditionOf limits log edition → log ≡ new.entered
     → Puts before after w (reply_bytes (answered edition.shown.number (canon_document edition.shown.axioms))) → Speaks depth footing old new i before after w
 export_speaks depth footing old new limits log edition i before after w asked looks is e puts = record {
@@ -52,7 +52,7 @@ refused_speaks depth footing failed.Shut request old new i before after w asked 
 }
 
 -- a module, or want of memory for it
-pub module_speaks : (depth : ℕ) (footing : Footing) (n : ℕ) (seed : List Entity) (old new : Sight) (limits : Limits) (log : List Logged) (edition : Held) (i : Item) (before after : Option (List ℕ)) (w : Wrote)
+pub module_speaks : (depth : ℕ) (footing : Footing) (n : ℕ) (seed : List Entity) (old new : Sight) (limits : Limits) (log : List Logged) (edition : Limited) (i : Item) (before after : Option (List ℕ)) (w : Wrote)
     → i.asked ≡ Some (Module kinds.Bottom n) → IsSeed depth i.payload seed → Looks footing old new → IsEditionOf limits log edition → log ≡ new.entered
     → PutsModuleOrRefuses edition.shown seed before after w → Speaks depth footing old new i before after w
 module_speaks depth footing n seed old new limits log edition i before after w asked spelled looks is e puts =

@@ -2,7 +2,7 @@
 use Rattle.std.proofs.Common.{◌≡◌, ◌<◌, List, Option, None, Some, length, get_or, set, refl, ap, sym, ◌∙◌, subst, arith}
 use Rattle.std.specs.Option.{option_map}
 use Rattle.std.specs.Arc.{arc_value}
-use Rattle.ad_edition.specs.Edition.{Held}
+use Rattle.ad_edition.specs.Edition.{Limited}
 use Rattle.ad_edition.specs.State.{State, after_enter}
 use Rattle.ad_core.specs.Kept.{editions_in, waiting_in, numbers_of, IsKept}
 use Rattle.ad_core.proofs.KeptLemmas.{IsKept-enter, waits_newest, numbers_of-enter, numbers_of-still}
@@ -26,10 +26,10 @@ invariant_of-self c =
     waiting_at waiting at c.index_mut.result.now (omega (arith, length-waiting_in waiting, c.self.invariant.waiting_count)) c.index_mut.ensures.value
     ∙ ap (option_map (λ (o : _). arc_value o)) (sym c.take.ensures.value ∙ c.in-Some.is) in
     let same : arc_value c.in-Some.newest ≡ newest = waits_newest log newest (editions_in owners) (waiting_in waiting) edits session workers at (arc_value c.in-Some.newest) c.self.invariant within waits in
-    let seen_is : editions_in (set owners at c.in-Some.newest) ≡ set (editions_in owners) at newest = editions_in-set owners at c.in-Some.newest ∙ ap (λ (e : Held). set (editions_in owners) at e) same in
+    let seen_is : editions_in (set owners at c.in-Some.newest) ≡ set (editions_in owners) at newest = editions_in-set owners at c.in-Some.newest ∙ ap (λ (e : Limited). set (editions_in owners) at e) same in
     let waiting_is : waiting_in (set waiting at c.take.new.self) ≡ set (waiting_in waiting) at None = ap (λ o. waiting_in (set waiting at o)) c.take.ensures.after ∙ waiting_in-set waiting at None in
-    subst (λ (seen : List Held). IsKept log newest seen (waiting_in (set waiting at c.take.new.self)) edits session workers) (sym seen_is)
-    (subst (λ (w : List (Option Held)). IsKept log newest (set (editions_in owners) at newest) w edits session workers) (sym waiting_is) (IsKept-enter log newest (editions_in owners) (waiting_in waiting) edits session workers at c.self.invariant within))
+    subst (λ (seen : List Limited). IsKept log newest seen (waiting_in (set waiting at c.take.new.self)) edits session workers) (sym seen_is)
+    (subst (λ (w : List (Option Limited)). IsKept log newest (set (editions_in owners) at newest) w edits session workers) (sym waiting_is) (IsKept-enter log newest (editions_in owners) (waiting_in waiting) edits session workers at c.self.invariant within))
 
 pub returns-in-Some : goal.returns-in-Some
 returns-in-Some c =
@@ -47,7 +47,7 @@ returns-in-Some c =
     waiting_at waiting at c.index_mut.result.now (omega (arith, length-waiting_in waiting, c.self.invariant.waiting_count)) c.index_mut.ensures.value
     ∙ ap (option_map (λ (o : _). arc_value o)) (sym c.take.ensures.value ∙ c.in-Some.is) in
     let same : arc_value c.in-Some.newest ≡ newest = waits_newest log newest (editions_in owners) (waiting_in waiting) edits session workers at (arc_value c.in-Some.newest) c.self.invariant within waits in
-    let seen_is : editions_in (set owners at c.in-Some.newest) ≡ set (editions_in owners) at newest = editions_in-set owners at c.in-Some.newest ∙ ap (λ (e : Held). set (editions_in owners) at e) same in
+    let seen_is : editions_in (set owners at c.in-Some.newest) ≡ set (editions_in owners) at newest = editions_in-set owners at c.in-Some.newest ∙ ap (λ (e : Limited). set (editions_in owners) at e) same in
     let entered : numbers_of (editions_in (set owners at c.in-Some.newest)) ≡ set (numbers_of (editions_in owners)) at (length log) = ap numbers_of seen_is ∙ numbers_of-enter log newest (editions_in owners) (waiting_in waiting) edits session workers at c.self.invariant in
     state_is log log _ _ newest.limits newest.limits session c.self.inside.looks refl entered refl ∙ ap (λ (m : State). after_enter m at) c.self.view_is
 

@@ -1,7 +1,7 @@
 -- Each part is as in the first machine.
 use Rattle.std.proofs.Common.{◌≡◌, replicate, ap, ◌∙◌}
 use Rattle.std.specs.Arc.{arc_value}
-use Rattle.ad_edition.specs.Edition.{Held, first_of_all}
+use Rattle.ad_edition.specs.Edition.{Limited, first_of_all}
 use Rattle.ad_core.specs.Kept.{editions_in, numbers_of}
 use Rattle.ad_core.proofs.KeptLemmas.{IsKept-first, numbers_of-first}
 use Rattle.ad_core.proofs.LookLemmas.{state_is}
@@ -15,5 +15,5 @@ invariant_of-result c =
 pub returns : goal.returns
 returns c =
     let first : arc_value c.in_ok-newest.newest ≡ first_of_all c.args.limits = c.in_ok-newest.ensures.ok ∙ c.empty.ensures in
-    let entered : numbers_of (editions_in c.in_ok-seen.seen.items) ≡ replicate c.args.sessions 0 = ap numbers_of (c.in_ok-seen.ensures ∙ ap (λ (e : Held). replicate c.args.sessions e) first) ∙ numbers_of-first c.args.limits c.args.sessions in
-    state_is _ _ _ _ _ _ 0 0 c.new-2.ensures.items entered (ap (λ (e : Held). e.limits) first)
+    let entered : numbers_of (editions_in c.in_ok-seen.seen.items) ≡ replicate c.args.sessions 0 = ap numbers_of (c.in_ok-seen.ensures ∙ ap (λ (e : Limited). replicate c.args.sessions e) first) ∙ numbers_of-first c.args.limits c.args.sessions in
+    state_is _ _ _ _ _ _ 0 0 c.new-2.ensures.items entered (ap (λ (e : Limited). e.limits) first)

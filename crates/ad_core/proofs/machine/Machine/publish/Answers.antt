@@ -1,7 +1,7 @@
 -- The log has one more entry, and its edition is the newest one.
 use Rattle.std.proofs.Common.{◌≡◌, ◌+◌, ◌<◌, ◌≤◌, ◌∷◌, ◌++◌, [], length, ap, sym, ◌∙◌, subst, arith}
 use Rattle.std.specs.Arc.{arc_value}
-use Rattle.ad_edition.specs.Edition.{Held, next_edition}
+use Rattle.ad_edition.specs.Edition.{Limited, next_edition}
 use Rattle.ad_edition.specs.State.{State, newest_of}
 use Rattle.ad_core.specs.Kept.{editions_in, waiting_in, numbers_of}
 use Rattle.ad_core.proofs.EditionsLemmas.{edition_is}
@@ -19,7 +19,7 @@ overflow_add-sequence c =
     let fewer : c.index.result.now ≤ newest.shown.number = edits_below c.self.inside.log.items newest (editions_in owners) (waiting_in c.self.inside.waiting.items) c.self.inside.edits.items c.self.inside.session c.self.inside.workers at c.index.result.now c.self.invariant within c.index.ensures in
     let number : newest.shown.number ≡ length c.self.inside.log.items = newest_number c.self.inside.log.items newest (editions_in owners) (waiting_in c.self.inside.waiting.items) c.self.inside.edits.items c.self.inside.session c.self.inside.workers c.self.invariant in
     let log : length c.self.inside.log.items ≡ length c.args.self.now.log = ap (λ (m : State). length m.log) c.self.view_is in
-    let next : c.args.draft.next.shown.number ≡ length c.args.self.now.log + 1 = ap (λ (e : Held). e.shown.number) c.requires.next in
+    let next : c.args.draft.next.shown.number ≡ length c.args.self.now.log + 1 = ap (λ (e : Limited). e.shown.number) c.requires.next in
     omega (arith, fewer, number, log, next, c.requires.fits)
 
 pub invariant_of-self-2 : goal.invariant_of-self-2
@@ -37,6 +37,6 @@ invariant_of-self-2 c =
     let count : c.sessions.result ≡ length (editions_in owners) = c.sessions.ensures.count ∙ ap (λ (m : State). length m.entered) (sym c.self.view_is) ∙ length-numbers_of owners ∙ sym (length-editions_in owners) in
     IsKept-publish log c.push.new.self.items newest (arc_value c.in_ok-newest.newest) (editions_in owners) (waiting_in c.self.inside.waiting.items) (waiting_in c.in_ok-waiting.waiting.items) c.self.inside.edits.items c.self.inside.session c.self.inside.workers at c.index.result.now c.sessions.result batch c.self.invariant within c.index.ensures
     (log_is ∙ ap (λ (entry : _). log ++ entry ∷ []) c.finish_for-next.ensures.entry)
-    (next ∙ ap (λ (e : Held). next_edition e batch) before)
+    (next ∙ ap (λ (e : Limited). next_edition e batch) before)
     count
     c.in_ok-waiting.ensures

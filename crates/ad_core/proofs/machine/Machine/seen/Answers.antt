@@ -1,7 +1,7 @@
 -- The type keeps it of each session's edition.
 use Rattle.std.proofs.Common.{◌≡◌, ◌<◌, length, take, get_or, sym, ◌∙◌, subst, arith}
 use Rattle.std.specs.Arc.{arc_value}
-use Rattle.ad_edition.specs.Edition.{Held, IsEditionOf}
+use Rattle.ad_edition.specs.Edition.{Limited, IsEditionOf}
 use Rattle.ad_edition.specs.State.{State, entered_by}
 use Rattle.ad_core.specs.Kept.{editions_in, numbers_of}
 use Rattle.ad_core.proofs.OwnersLemmas.{edition_at, length-numbers_of}
@@ -15,5 +15,5 @@ returns c =
     let session = c.args.session in
     let below : session < length (numbers_of (editions_in owners)) = subst (λ (m : State). session < length m.entered) (sym c.self.view_is) c.requires in
     let found : get_or (editions_in owners) session newest ≡ c.deref.result.now = edition_at owners session c.index.result.now (omega (arith, length-numbers_of owners)) c.index.ensures newest ∙ sym c.deref.ensures in
-    let is : IsEditionOf newest.limits (take (get_or (numbers_of (editions_in owners)) session 0) log) c.deref.result.now = subst (λ (e : Held). IsEditionOf newest.limits (take (get_or (numbers_of (editions_in owners)) session 0) log) e) found (c.self.invariant.editions.seen_is session newest below) in
+    let is : IsEditionOf newest.limits (take (get_or (numbers_of (editions_in owners)) session 0) log) c.deref.result.now = subst (λ (e : Limited). IsEditionOf newest.limits (take (get_or (numbers_of (editions_in owners)) session 0) log) e) found (c.self.invariant.editions.seen_is session newest below) in
     subst (λ (m : State). IsEditionOf m.limits (entered_by m session) c.deref.result.now) c.self.view_is is
