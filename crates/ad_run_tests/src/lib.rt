@@ -16,4 +16,3 @@ mod replies;
 #[cfg(test)]
 mod sessions;
 #[cfg(test)]
-mod writers;
