@@ -15,4 +15,3 @@ mod machines;
 mod replies;
 #[cfg(test)]
 mod sessions;
-#[cfg(test)]
