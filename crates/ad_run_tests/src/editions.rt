@@ -4,10 +4,13 @@ ghost use Rattle.std.specs.Prelude.{◌≡◌, ◌+◌, ◌<◌, length, OnOk};
 use ad_base::{Limits, Memory, Word};
 use ad_edition::Edition;
 use ad_entity::{Entity, EntityKind};
+use ad_theory::Tally;
 use ad_tree::{Axiom, Batch, Class, Many, Noted, Op, Sign};
 use std::alloc::Global;
+use std::hash::RandomState;
 use std::process::Abort;
 use std::test::Fail;
+use std::thread::Threads;
 
 fn class(alloc: Global, name: &str) -> Result<Class, Memory> {
     Ok(Class::Named(Word::of(alloc, name)?))
@@ -74,24 +77,33 @@ fn lists_both(alloc: Global, edition: &Edition) -> Result<bool, Memory> {
     Ok(edition.len() == 2 && *edition.noted(0) == declaration && *edition.axioms()[1] == axiom)
 }
 
-fn make(rt: &impl Abort, alloc: Global) -> Result<Edition, Fail> {
+fn make(
+    rt: &(impl Abort + Threads + Sync),
+    alloc: Global,
+    keys: RandomState,
+) -> Result<Edition, Fail> {
     let mut limits = Limits::standard();
     limits.axioms = 1;
-    let none = Edition::empty(alloc, limits);
+    let none = Edition::empty(alloc, keys, limits)?;
     assert!(rt; none.is_empty() && none.bytes() == 12);
     let batch = batch(alloc)?;
-    let draft = none.begin(alloc, &batch).ok().ok_or("refused")?;
-    let (edition, entry) = draft.finish_for(3, 7);
+    let mut draft = none.begin(alloc, &batch).ok().ok_or("refused")?;
+    let entry = draft.take_entry(alloc, 3, 7);
+    let edition = draft.fresh(rt, alloc, &mut Tally::new())?;
     assert!(rt; entry.ticket() == 3 && entry.sequence() == 7);
     Ok(edition)
 }
 
 #[test]
 fn an_edition_and_its_entry(rt: HostRuntime) -> Result<(), Fail> {
-    let edition = make(&rt, rt.alloc())?;
+    let keys = RandomState::new(&rt)?;
+    let edition = make(&rt, rt.alloc(), keys)?;
     assert!(rt; edition.number() == 1 && edition.bytes() == 62);
     assert!(rt; edition.limits().axioms == 1);
     assert!(rt; counts(&edition) == [2, 1, 1]);
+    assert!(rt;
+        edition.entity_count() == 2 && edition.slot(0).is_none() && edition.slot(1) == Some(0)
+    );
     assert!(rt; lists_both(rt.alloc(), &edition)?);
     Ok(())
 }

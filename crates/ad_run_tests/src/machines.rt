@@ -7,14 +7,17 @@ use ad_io::{SureSink, SureSource};
 use ad_session::{End, Work, session};
 use ad_tree::Batch;
 use std::alloc::Global;
+use std::hash::RandomState;
 use std::process::Abort;
 use std::test::Fail;
+use std::thread::Threads;
 
 // A session's number, its input and the replies to it.
 type Dialogue = (u32, &'static str, &'static str);
 
 // How a session of the machine over this input ends, whose replies are kept.
 fn end_of(
+    rt: &(impl Threads + Sync),
     alloc: Global,
     machine: &mut Machine,
     index: u32,
@@ -25,17 +28,22 @@ fn end_of(
     let mut work = Work::new(alloc, &limits)?;
     let mut source = SureSource::new(Vec::from_slice(alloc, input.as_bytes())?);
     if index < machine.sessions() {
-        Ok(session(alloc, &mut source, sink, machine, index, &mut work))
+        Ok(session(rt, alloc, &mut source, sink, machine, index, &mut work))
     } else {
         Err(Memory)
     }
 }
 
 // Whether a session of the machine answers the input so, to its end.
-fn answers(alloc: Global, machine: &mut Machine, dialogue: Dialogue) -> Result<bool, Memory> {
+fn answers(
+    rt: &(impl Threads + Sync),
+    alloc: Global,
+    machine: &mut Machine,
+    dialogue: Dialogue,
+) -> Result<bool, Memory> {
     let (index, input, replies) = dialogue;
     let mut sink = SureSink::new(alloc, 4096)?;
-    let found = end_of(alloc, machine, index, input, &mut sink)?;
+    let found = end_of(rt, alloc, machine, index, input, &mut sink)?;
     Ok(found == End::Closed && sink.bytes() == replies.as_bytes())
 }
 
@@ -55,7 +63,8 @@ const EDITED: &str = "OK 1 37\nadded 1 already 0 removed 0 absent 0\n";
 // Each session sees what the other did.
 #[test]
 fn two_sessions(rt: HostRuntime) -> Result<(), Fail> {
-    let mut machine = Machine::new(rt.alloc(), Limits::standard(), 2, 1)?;
+    let keys = RandomState::new(&rt)?;
+    let mut machine = Machine::new(rt.alloc(), keys, Limits::standard(), 2, 1)?;
     let table = [
         (0, EDIT, EDITED),
         (
@@ -66,7 +75,7 @@ fn two_sessions(rt: HostRuntime) -> Result<(), Fail> {
         (0, "EXPORT\n", "OK 2 12\nOntology(\n)\n"),
     ];
     for dialogue in table {
-        assert!(rt; answers(rt.alloc(), &mut machine, dialogue)?);
+        assert!(rt; answers(&rt, rt.alloc(), &mut machine, dialogue)?);
     }
     Ok(())
 }
@@ -78,7 +87,8 @@ fn entered_editions(rt: HostRuntime) -> Result<(), Fail> {
     let mut limits = Limits::standard();
     limits.axioms = 1;
     limits.editions = 2;
-    let mut machine = Machine::new(rt.alloc(), limits, 2, 16)?;
+    let keys = RandomState::new(&rt)?;
+    let mut machine = Machine::new(rt.alloc(), keys, limits, 2, 16)?;
     let more = "EDIT 25\n+SubClassOf(<u:B> <u:C>)\n";
     let removal = "EDIT 25\n-SubClassOf(<u:A> <u:B>)\n";
     let removed = "OK 2 37\nadded 0 already 0 removed 1 absent 0\n";
@@ -92,7 +102,7 @@ fn entered_editions(rt: HostRuntime) -> Result<(), Fail> {
         ((1, "EXPORT\n", "OK 2 12\nOntology(\n)\n"), [2, 1, 2]),
     ];
     for (dialogue, entered) in table {
-        assert!(rt; answers(rt.alloc(), &mut machine, dialogue)?);
+        assert!(rt; answers(&rt, rt.alloc(), &mut machine, dialogue)?);
         assert!(rt; numbers(&machine) == entered);
     }
     assert!(rt; machine.newest().bytes() == 12);
@@ -110,13 +120,14 @@ const FIRST: Receipt = Receipt {
 
 // Whether the batch of a session is accepted so.
 fn accepts(
+    rt: &(impl Threads + Sync),
     alloc: Global,
     machine: &mut Machine,
     index: u32,
     batch: &Batch,
     receipt: Receipt,
 ) -> bool {
-    index < machine.sessions() && machine.commit(alloc, index, batch) == Ok(receipt)
+    index < machine.sessions() && machine.commit(rt, alloc, index, batch) == Ok(receipt)
 }
 
 fn enter(machine: &mut Machine, index: u32) {
@@ -134,9 +145,10 @@ fn attend(machine: &mut Machine, index: u32) {
 // What was committed is seen by the sessions that enter it, and entering again changes nothing.
 #[test]
 fn entering(rt: HostRuntime) -> Result<(), Fail> {
-    let mut machine = Machine::new(rt.alloc(), Limits::standard(), 2, 16)?;
+    let keys = RandomState::new(&rt)?;
+    let mut machine = Machine::new(rt.alloc(), keys, Limits::standard(), 2, 16)?;
     let batch = addition(rt.alloc())?;
-    assert!(rt; accepts(rt.alloc(), &mut machine, 1, &batch, FIRST));
+    assert!(rt; accepts(&rt, rt.alloc(), &mut machine, 1, &batch, FIRST));
     assert!(rt; numbers(&machine) == [1, 0, 0]);
     enter(&mut machine, 0);
     enter(&mut machine, 0);
@@ -152,11 +164,12 @@ fn lent(rt: &impl Abort, machine: &mut Machine) -> u32 {
 
 #[test]
 fn looks(rt: HostRuntime) -> Result<(), Fail> {
-    let mut machine = Machine::new(rt.alloc(), Limits::standard(), 8, 1)?;
+    let keys = RandomState::new(&rt)?;
+    let mut machine = Machine::new(rt.alloc(), keys, Limits::standard(), 8, 1)?;
     assert!(rt; machine.sessions() == 8 && machine.limits().axioms == 20_480);
     attend(&mut machine, 7);
     let batch = addition(rt.alloc())?;
-    assert!(rt; accepts(rt.alloc(), &mut machine, 7, &batch, FIRST));
+    assert!(rt; accepts(&rt, rt.alloc(), &mut machine, 7, &batch, FIRST));
     assert!(rt; machine.edition().number() == 0);
     assert!(rt; lent(&rt, &mut machine) == 1);
     assert!(rt; machine.edition().bytes() == 36);
