@@ -6,7 +6,6 @@ ghost use Rattle.ad_slots.specs.Places.{held_symbols, is_held};
 ghost use Rattle.ad_theory.specs.Tally.{IsRaisedBy};
 ghost use Rattle.ad_edition.specs.Edition.{FitsLimits, IsDecompositionOf};
 
-use crate::Bench;
 use ad_base::{Limits, Memory};
 use ad_decompose::Decomposition;
 use ad_flat::FlatUniverse;
@@ -33,7 +32,7 @@ pub(crate) fn decomposition_of(
 {
     ontology.laws();
     let order = ontology.order(alloc)?;
-    Decomposition::of::<FlatUniverse, Bench>(
+    Decomposition::of::<FlatUniverse>(
         rt,
         alloc,
         ontology.universe(),

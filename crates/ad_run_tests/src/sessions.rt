@@ -1,10 +1,11 @@
 //! A session over sources and sinks that move few bytes at a call, or fail at one.
 ghost use Rattle.std.specs.Prelude.{◌<◌};
 
+use crate::dialogues::end_over;
 use ad_base::{Limits, Memory};
 use ad_core::Machine;
 use ad_io::{MemSink, MemSource};
-use ad_session::{End, Work, session};
+use ad_session::End;
 use std::alloc::Global;
 use std::hash::RandomState;
 use std::test::Fail;
@@ -71,15 +72,11 @@ fn end_of(
     source: &mut MemSource,
     sink: &mut MemSink,
 ) -> Result<(End, u32), Memory> {
-    let limits = Limits::standard();
-    let mut machine = Machine::new(alloc, keys, limits, 1, 1)?;
-    let mut work = Work::new(alloc, &limits)?;
-    let end = if machine.sessions() == 1 {
-        session(rt, alloc, source, sink, &mut machine, 0, &mut work)
-    } else {
-        End::Spent
-    };
-    Ok((end, machine.newest().number()))
+    let mut machine = Machine::new(alloc, keys, Limits::standard(), 1, 1)?;
+    let end = end_over(rt, alloc, &mut machine, 0, source, sink);
+    let edits = machine.newest().number();
+    drop(machine);
+    Ok((end?, edits))
 }
 
 // Whether a front of the worked replies of this length was written, and no more.
