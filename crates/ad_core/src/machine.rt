@@ -1,5 +1,6 @@
-ghost use Rattle.std.specs.Prelude.{◌≡◌, ◌<◌, ◌≤◌, ◌^◌, length, None, IfOk, IfErr, IsOk, OnOk, OnErr};
+ghost use Rattle.std.specs.Prelude.{◌≡◌, ◌<◌, ◌≤◌, ◌^◌, length, IsFalse, None, IfOk, IfErr, IsOk, OnOk, OnErr};
 ghost use Rattle.ad_base.specs.Limits.{AreWithinStandard};
+ghost use Rattle.ad_edition.specs.Limit.{is_moved};
 ghost use Rattle.ad_edition.specs.Log.{IsLog};
 ghost use Rattle.ad_edition.specs.Edition.{IsEditionOf, limited_of, next_edition};
 ghost use Rattle.ad_edition.specs.State.{at_first, entered_by, after_attend, after_commit, after_enter, after_look, first_passed, newest_of, receipt_after, IsMachine, IsRefusalOf};
@@ -133,24 +134,26 @@ impl Machine {
         self.looks = 0;
     }
 
-    /// Appends the session's batch to the log, if no limit is passed, and makes the edition of the new log the newest.
-    /// Limits are looked at in the order axioms, entities, bytes, editions. Nothing changes at a refusal. Threads share the
-    /// work.
+    /// Appends the session's batch to the log, if the newest edition or none is expected and no limit is passed, and makes
+    /// the edition of the new log the newest. Limits are looked at in the order axioms, entities, bytes, editions. Nothing
+    /// changes at a refusal. Threads share the work.
     pub fn commit(
         &mut self,
         rt: &(impl Threads + Sync),
         alloc: Global,
         session: u32,
         batch: &Batch,
+        expected: Option<u64>,
     ) -> Result<Receipt, Refused>
         requires { session < length self.old.entered }
         ensures accepted { OnOk result (self.new ≡ after_commit self.old session batch.now) }
         ensures receipt { IfOk result (λ receipt. receipt ≡ receipt_after self.old batch.now) }
+        ensures expected { IsOk result → IsFalse (is_moved expected (length self.old.log)) }
         ensures within { IsOk result → first_passed self.old batch.now ≡ None }
-        ensures refused { IfErr result (λ cause. IsRefusalOf self.old batch.now cause) }
+        ensures refused { IfErr result (λ cause. IsRefusalOf self.old expected batch.now cause) }
         ensures unchanged { OnErr result (self.new ≡ self.old) }
     {
-        let draft = self.newest.begin(alloc, batch)?;
+        let draft = self.newest.begin(alloc, batch, expected)?;
         let receipt = draft.receipt();
         self.publish(rt, alloc, session, draft)?;
         Ok(receipt)

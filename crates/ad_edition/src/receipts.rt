@@ -17,6 +17,8 @@ pub struct Receipt {
 /// with the count that passes it; or for want of memory.
 #[derive(Clone, Copy, Debug, PartialEq, Eq, Hash)]
 pub enum Refused {
+    /// Another edition was expected than this one.
+    Moved { edition: u32 },
     Limit {
         edition: u32,
         which: Which,

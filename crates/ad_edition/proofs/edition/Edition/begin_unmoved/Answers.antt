@@ -5,7 +5,7 @@ use Rattle.ad_apply.specs.Same.{same_axiom}
 use Rattle.ad_apply.specs.Steps.{batch_in}
 use Rattle.ad_apply.proofs.AppliedLemmas.{distinct-applied}
 use Rattle.ad_syntax_laws.specs.OntologyModule.{values}
-use Rattle.ad_edition.proofs.edition.Edition.begin.Goals as goal
+use Rattle.ad_edition.proofs.edition.Edition.begin_unmoved.Goals as goal
 
 pub next_ontology-requires-clause-distinct : goal.next_ontology-requires-clause-distinct
 next_ontology-requires-clause-distinct c =
