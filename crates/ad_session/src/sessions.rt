@@ -74,9 +74,9 @@ fn take_round<S: Source, K: Sink>(
             machine.laws();
             Some(end)
         }
-        Pause::Edit(batch) => {
+        Pause::Edit(batch, expected) => {
             machine.laws();
-            let outcome = machine.commit(rt, alloc, index, &batch);
+            let outcome = machine.commit(rt, alloc, index, &batch, expected);
             answer(sink, answered, outcome)
         }
     }

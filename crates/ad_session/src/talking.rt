@@ -36,7 +36,7 @@ pub fn talk<S: Source, K: Sink, L: Look>(
     'turns: while talk.answered < limits.requests {
         match take_turn(alloc, source, sink, look, work, limits) {
             Turn::Said => talk.answered += 1,
-            Turn::Edit(batch) => return Pause::Edit(batch),
+            Turn::Edit(batch, expected) => return Pause::Edit(batch, expected),
             Turn::Ended(end) => return Pause::Ended(end),
         }
     }
