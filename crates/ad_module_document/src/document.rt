@@ -1,5 +1,5 @@
 //! The size and the bytes of the document of the axioms that a choice takes.
-ghost use Rattle.std.specs.Prelude.{◌≡◌, ◌<◌, ◌+◌, ◌-◌, ◌^◌, ◌++◌, ℕ, None, Some, IfSome, length, min, slice_index_or};
+ghost use Rattle.std.specs.Prelude.{◌≡◌, ◌<◌, ◌≤◌, ◌+◌, ◌-◌, ◌^◌, ◌++◌, ℕ, None, Some, IfSome, length, min, slice_index_or};
 ghost use Rattle.std.specs.List.{flat_map};
 ghost use Rattle.ad_io.specs.Sink.{Puts, PutCause};
 ghost use Rattle.ad_write.specs.Canonical.{canon_document, canon_line, document_foot};
@@ -14,7 +14,7 @@ use ad_write::{EMPTY_DOCUMENT, document_length, size, write_foot, write_head, wr
 
 // A law: the choice may be asked for each slot.
 fn slots_below<C: Choice>(ontology: &NumberedOntology, choice: &C)
-    requires { C.reach choice.now ≡ ontology.now.most }
+    requires { ontology.now.most ≤ C.reach choice.now }
     ensures below { (i slot : ℕ) → slice_index_or ontology.now.slots i None ≡ Some slot → slot < C.reach choice.now }
     ensures long { length ontology.now.slots ≡ length ontology.now.axioms }
 {
@@ -25,7 +25,7 @@ fn slots_below<C: Choice>(ontology: &NumberedOntology, choice: &C)
 /// How many bytes the document of the axioms that the choice takes has, or the last u64 where it has more. It takes no
 /// memory.
 pub fn document_size_of<C: Choice>(ontology: &NumberedOntology, choice: &C) -> u64
-    requires { C.reach choice.now ≡ ontology.now.most }
+    requires { ontology.now.most ≤ C.reach choice.now }
     ensures { result ≡ min (length (canon_document (taken_of (C.takes choice.now) ontology.now))) (2 ^ 64 - 1) }
 {
     document_length();
@@ -58,7 +58,7 @@ pub fn write_document_of<C: Choice, K: Sink>(
     choice: &C,
     sink: &mut K,
 ) -> Wrote
-    requires { C.reach choice.now ≡ ontology.now.most }
+    requires { ontology.now.most ≤ C.reach choice.now }
     ensures bytes { Puts (K.written sink.old) (K.written sink.new) result (canon_document (taken_of (C.takes choice.now) ontology.now)) }
     ensures cause { PutCause (K.faults sink.old) (K.faults sink.new) result }
 {
@@ -70,7 +70,7 @@ pub fn write_document_of<C: Choice, K: Sink>(
 
 // Writes the lines of the document's axioms, and what stands behind them.
 fn write_body<C: Choice, K: Sink>(ontology: &NumberedOntology, choice: &C, sink: &mut K) -> Wrote
-    requires { C.reach choice.now ≡ ontology.now.most }
+    requires { ontology.now.most ≤ C.reach choice.now }
     ensures bytes { Puts (K.written sink.old) (K.written sink.new) result (flat_map canon_line (taken_of (C.takes choice.now) ontology.now) ++ document_foot) }
     ensures cause { PutCause (K.faults sink.old) (K.faults sink.new) result }
 {
@@ -82,7 +82,7 @@ fn write_body<C: Choice, K: Sink>(ontology: &NumberedOntology, choice: &C, sink:
 
 // Writes the lines of the document's axioms.
 fn write_lines<C: Choice, K: Sink>(ontology: &NumberedOntology, choice: &C, sink: &mut K) -> Wrote
-    requires { C.reach choice.now ≡ ontology.now.most }
+    requires { ontology.now.most ≤ C.reach choice.now }
     ensures bytes { Puts (K.written sink.old) (K.written sink.new) result (flat_map canon_line (taken_of (C.takes choice.now) ontology.now)) }
     ensures cause { PutCause (K.faults sink.old) (K.faults sink.new) result }
 {
