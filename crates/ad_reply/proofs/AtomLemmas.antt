@@ -10,7 +10,7 @@ use Rattle.ad_tree.specs.declared.axioms.Noted.{Noted}
 use Rattle.ad_syntax_laws.specs.OntologyModule.{is_logical_axiom, logical}
 use Rattle.ad_entity.specs.declared.entities.Entity.{Entity}
 use Rattle.ad_slots.specs.Held.{Held}
-use Rattle.ad_tables.specs.Rows.{Tables}
+use Rattle.ad_tables.specs.Rows.{Numbered, Tables}
 use Rattle.ad_decomposition.specs.Tables.{AreGenuine, is_in_row_of}
 use Rattle.ad_decompose.specs.Decomposed.{genuine_of}
 use Rattle.ad_decompose.specs.Decomposed.{atomic_of}
@@ -86,6 +86,13 @@ atom_taken kind edition atom is =
     kept_slots atoms atom o.axioms o.slots is.numbered.slotted
     ∙ ap (λ l. map (λ p. p.0) (filter (λ p. is_of_atom atom p.1) (zip (logical o.axioms) l))) numbers
     ∙ ap (λ axioms. axioms_of_atom (shape_in kind edition) atom axioms) is.axioms
+
+pub atom_taken_in : (kind : Kind) (edition : Whole) (atom : ℕ) (atoms : Numbered) (ontology : InSlots) → IsEdition edition → atoms ≡ (atomic_of edition.found kind).atoms → ontology ≡ edition.numbered
+    → taken_of (λ a slot. is_slot_of atoms.atom_of atom slot) ontology ≡ axioms_of_atom (shape_in kind edition) atom edition.shown.axioms
+atom_taken_in kind edition atom atoms ontology is same_atoms same_ontology =
+    ap (λ (t : Numbered). taken_of (λ a slot. is_slot_of t.atom_of atom slot) ontology) same_atoms
+    ∙ ap (λ (o : InSlots). taken_of (λ a slot. is_slot_of (atomic_of edition.found kind).atoms.atom_of atom slot) o) same_ontology
+    ∙ atom_taken kind edition atom is
 
 -- there are as many atoms as are counted
 pub atoms_counted : (kind : Kind) (edition : Whole) → IsEdition edition → length (atomic_of edition.found kind).atoms.firsts ≡ length (shape_in kind edition).sizes
