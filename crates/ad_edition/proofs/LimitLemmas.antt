@@ -41,6 +41,7 @@ module _ (l : Limits) (number : ℕ) (axioms : List Noted) where
           ∙ over which.Entities l.entities count (passed_by_size l number (document_count axioms)) many.2
           ∙ ap (λ x. Some (record { which = x; count = count })) (sym many.1),
     )
+    by_entities (refusals.Moved edition) many = absurd many
     by_entities refusals.Memory many = tt
 
     module _ (named : length (entities_of (logical axioms)) ≤ l.entities) where

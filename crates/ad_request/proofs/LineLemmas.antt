@@ -18,19 +18,19 @@ differ : (i : ℕ) (a b : List ℕ) → a ≡ b → IsTrue (not (get_or a i 0 ==
 differ i a b e h = let same : get_or a i 0 ≡ get_or b i 0 = ap (λ l. get_or l i 0) e in grind (arith, nat_tests, h, same)
 
 pub same_request : (one other : Request) → IsOffered one → IsOffered other → request_line one ≡ request_line other → one ≡ other
-same_request (Edit m) (Edit n) a b e = ap Edit (numbers_same (codes "EDIT ") m n a b e)
-same_request (Edit m) (Module kinds.Bottom n) a b e = absurd (differ 0 _ _ e refl)
-same_request (Edit m) Export a b e = absurd (differ 1 _ _ e refl)
-same_request (Edit m) Quit a b e = absurd (differ 0 _ _ e refl)
-same_request (Module kinds.Bottom m) (Edit n) a b e = absurd (differ 0 _ _ e refl)
+same_request (Edit m None) (Edit n None) a b e = ap (λ k. Edit k None) (numbers_same (codes "EDIT ") m n a b e)
+same_request (Edit m None) (Module kinds.Bottom n) a b e = absurd (differ 0 _ _ e refl)
+same_request (Edit m None) Export a b e = absurd (differ 1 _ _ e refl)
+same_request (Edit m None) Quit a b e = absurd (differ 0 _ _ e refl)
+same_request (Module kinds.Bottom m) (Edit n None) a b e = absurd (differ 0 _ _ e refl)
 same_request (Module kinds.Bottom m) (Module kinds.Bottom n) a b e = ap (Module kinds.Bottom) (numbers_same (codes "MODULE bottom ") m n a b e)
 same_request (Module kinds.Bottom m) Export a b e = absurd (differ 0 _ _ e refl)
 same_request (Module kinds.Bottom m) Quit a b e = absurd (differ 0 _ _ e refl)
-same_request Export (Edit n) a b e = absurd (differ 1 _ _ e refl)
+same_request Export (Edit n None) a b e = absurd (differ 1 _ _ e refl)
 same_request Export (Module kinds.Bottom n) a b e = absurd (differ 0 _ _ e refl)
 same_request Export Export a b e = refl
 same_request Export Quit a b e = absurd (differ 0 _ _ e refl)
-same_request Quit (Edit n) a b e = absurd (differ 0 _ _ e refl)
+same_request Quit (Edit n None) a b e = absurd (differ 0 _ _ e refl)
 same_request Quit (Module kinds.Bottom n) a b e = absurd (differ 0 _ _ e refl)
 same_request Quit Export a b e = absurd (differ 0 _ _ e refl)
 same_request Quit Quit a b e = refl
@@ -41,6 +41,7 @@ same_request (Genuine k m) other a b e = absurd a
 same_request (Atoms k) other a b e = absurd a
 same_request (Atom k m) other a b e = absurd a
 same_request Stat other a b e = absurd a
+same_request (Edit m (Some k)) other a b e = absurd a
 same_request one (Load m) a b e = absurd b
 same_request one (Module kinds.Top m) a b e = absurd b
 same_request one (Module kinds.Star m) a b e = absurd b
@@ -48,6 +49,7 @@ same_request one (Genuine k m) a b e = absurd b
 same_request one (Atoms k) a b e = absurd b
 same_request one (Atom k m) a b e = absurd b
 same_request one Stat a b e = absurd b
+same_request one (Edit m (Some k)) a b e = absurd b
 
 pub asks_once : AsksForOneThing
 asks_once line None None a b = refl
@@ -63,7 +65,8 @@ number_found (Some n) line words rest e found none = (found.small, e ∙ ap (λ 
 -- a line that is none of these asks for nothing
 pub asks_nothing : (line : List ℕ) → (line ≡ codes "EXPORT" → ⊥) → (line ≡ codes "QUIT" → ⊥) → ((n : ℕ) → n < 10 ^ 10 → line ≡ codes "EDIT " ++ decimal n → ⊥) → ((n : ℕ) → n < 10 ^ 10 → line ≡ codes "MODULE bottom " ++ decimal n → ⊥) → Asks line None
 asks_nothing line export quit edit of_module (Load n) offered e = offered
-asks_nothing line export quit edit of_module (Edit n) offered e = edit n offered e
+asks_nothing line export quit edit of_module (Edit n None) offered e = edit n offered e
+asks_nothing line export quit edit of_module (Edit n (Some k)) offered e = offered
 asks_nothing line export quit edit of_module (Module kinds.Bottom n) offered e = of_module n offered e
 asks_nothing line export quit edit of_module (Module kinds.Top n) offered e = offered
 asks_nothing line export quit edit of_module (Module kinds.Star n) offered e = offered

@@ -9,7 +9,8 @@ use Rattle.ad_request.specs.declared.request.Request.TheVariants.{Load, Edit, Mo
 -- the line of a request: words with one space between them
 abbrev pub request_line : Request → List ℕ
 request_line (Load n) = codes "LOAD " ++ decimal n
-request_line (Edit n) = codes "EDIT " ++ decimal n
+request_line (Edit n None) = codes "EDIT " ++ decimal n
+request_line (Edit n (Some edition)) = codes "EDIT " ++ decimal n ++ codes " " ++ decimal edition
 request_line (Module kind n) = codes "MODULE " ++ kind_word kind ++ codes " " ++ decimal n
 request_line (Genuine kind n) = codes "GENUINE " ++ kind_word kind ++ codes " " ++ decimal n
 request_line (Atoms kind) = codes "ATOMS " ++ kind_word kind
@@ -25,7 +26,8 @@ IsSpelledShort n = n < 10 ^ 10
 -- the requests that are offered so far
 abbrev pub IsOffered : Request → Type 0
 IsOffered (Load n) = ⊥
-IsOffered (Edit n) = IsSpelledShort n
+IsOffered (Edit n None) = IsSpelledShort n
+IsOffered (Edit n (Some edition)) = ⊥
 IsOffered (Module kinds.Bottom n) = IsSpelledShort n
 IsOffered (Module kinds.Top n) = ⊥
 IsOffered (Module kinds.Star n) = ⊥
@@ -44,7 +46,7 @@ Asks line None = (request : Request) → IsOffered request → line ≡ request_
 -- how many bytes the payload has that stands behind a line
 abbrev pub payload_size : Request → ℕ
 payload_size (Load n) = n
-payload_size (Edit n) = n
+payload_size (Edit n expected) = n
 payload_size (Module kind n) = n
 payload_size (Genuine kind n) = n
 payload_size (Atoms kind) = 0

@@ -8,8 +8,8 @@ use ad_base::{Kind, number};
 pub enum Request {
     /// A document, as additions.
     Load(u64),
-    /// Additions and removals.
-    Edit(u64),
+    /// Additions and removals, where the newest edition has this number, if one is given.
+    Edit(u64, Option<u64>),
     /// The module of a seed.
     Module(Kind, u64),
     /// The module of an axiom's own names.
@@ -33,7 +33,7 @@ impl Request {
     {
         match *self {
             Request::Load(size)
-            | Request::Edit(size)
+            | Request::Edit(size, _)
             | Request::Module(_, size)
             | Request::Genuine(_, size) => size,
             Request::Atoms(_)
@@ -57,7 +57,7 @@ pub fn read_request(line: &[u8]) -> Option<Request>
         return Some(Request::Quit);
     }
     if let Some(size) = number_behind(line, b"EDIT ") {
-        return Some(Request::Edit(size));
+        return Some(Request::Edit(size, None));
     }
     if let Some(size) = number_behind(line, b"MODULE bottom ") {
         return Some(Request::Module(Kind::Bottom, size));
