@@ -49,14 +49,7 @@ fn decomposed(
 {
     let order = live_slots(alloc, universe)?;
     let mut tally = Tally::new();
-    Decomposition::of::<FlatUniverse>(
-        rt,
-        alloc,
-        universe,
-        &limits(),
-        &order,
-        &mut tally,
-    )
+    Decomposition::of::<FlatUniverse>(rt, alloc, universe, &limits(), &order, &mut tally)
 }
 
 // Writes the atom of each slot below the count.

@@ -1,12 +1,12 @@
 //! The table of class expressions.
-use crate::columns::{TableRow, SeenRow, letters, wrong_class, wrong_seen};
+use crate::columns::{Row, SeenRow, letters, wrong_class, wrong_seen};
 use ad_base::Side;
 use ad_local::class_surely;
 use ad_tree::{Class, Many, Seed};
 use std::test::Fail;
 
 #[rattlefmt::skip]
-static NAMES: [TableRow; 12] = [
+static NAMES: [Row; 12] = [
     // a name outside is what the side says, and nothing is sure of a seen one
     ("<u:A>", "B", "TN", "-"),
     // built-in classes and properties are what they are, seen or not
@@ -26,7 +26,7 @@ static NAMES: [TableRow; 12] = [
 ];
 
 #[rattlefmt::skip]
-static INTERSECTIONS: [TableRow; 12] = [
+static INTERSECTIONS: [Row; 12] = [
     // on each side both operands are alike
     ("ObjectIntersectionOf(<u:A> <u:B>)", "B", "TN", "-"),
     // one empty operand is enough; one that is everything isn't
@@ -46,7 +46,7 @@ static INTERSECTIONS: [TableRow; 12] = [
 ];
 
 #[rattlefmt::skip]
-static UNIONS: [TableRow; 12] = [
+static UNIONS: [Row; 12] = [
     ("ObjectUnionOf(<u:A> <u:B>)", "B", "TN", "-"),
     // one operand that is everything is enough; one empty operand isn't
     ("ObjectUnionOf(<u:A> owl:Thing)", "TN", "TN", "TN"),
@@ -66,7 +66,7 @@ static UNIONS: [TableRow; 12] = [
 ];
 
 #[rattlefmt::skip]
-static RESTRICTIONS: [TableRow; 20] = [
+static RESTRICTIONS: [Row; 20] = [
     // some: an empty property or class makes it empty
     ("ObjectSomeValuesFrom(<u:r> <u:A>)", "B", "TN", "-"),
     ("ObjectSomeValuesFrom(<u:r> owl:Nothing)", "B", "B", "B"),
@@ -96,7 +96,7 @@ static RESTRICTIONS: [TableRow; 20] = [
 ];
 
 #[rattlefmt::skip]
-static AT_LEAST: [TableRow; 14] = [
+static AT_LEAST: [Row; 14] = [
     // at least none is everything, seen or not
     ("ObjectMinCardinality(0 <u:r> <u:A>)", "TN", "TN", "TN"),
     ("ObjectMinCardinality(0 <u:r>)", "TN", "TN", "TN"),
@@ -117,7 +117,7 @@ static AT_LEAST: [TableRow; 14] = [
 ];
 
 #[rattlefmt::skip]
-static AT_MOST: [TableRow; 14] = [
+static AT_MOST: [Row; 14] = [
     // at most none: everything where the property or the class is empty
     ("ObjectMaxCardinality(0 <u:r> <u:A>)", "TN", "B", "-"),
     ("ObjectMaxCardinality(0 <u:r>)", "TN", "B", "-"),
@@ -138,7 +138,7 @@ static AT_MOST: [TableRow; 14] = [
 ];
 
 #[rattlefmt::skip]
-static EXACTLY: [TableRow; 12] = [
+static EXACTLY: [Row; 12] = [
     // exactly none is as at most none
     ("ObjectExactCardinality(0 <u:r> <u:A>)", "TN", "B", "-"),
     ("ObjectExactCardinality(0 <u:r>)", "TN", "B", "-"),
@@ -157,7 +157,7 @@ static EXACTLY: [TableRow; 12] = [
 
 // Restrictions of data properties, by the same rows as those of object properties.
 #[rattlefmt::skip]
-static DATA: [TableRow; 25] = [
+static DATA: [Row; 25] = [
     ("DataSomeValuesFrom(<u:p> <u:d>)", "B", "TN", "-"),
     ("DataSomeValuesFrom(<u:p> rdfs:Literal)", "B", "TN", "-"),
     ("DataSomeValuesFrom(owl:topDataProperty rdfs:Literal)", "TN", "TN", "TN"),

@@ -11,7 +11,7 @@ use std::test::Fail;
 
 // An expression, and what is sure of it: on the bottom side and on the top side where none of its names is seen, and on
 // both where all are. B is surely empty, T surely everything, N surely not empty, and - nothing.
-pub(crate) type TableRow = (&'static str, &'static str, &'static str, &'static str);
+pub(crate) type Row = (&'static str, &'static str, &'static str, &'static str);
 
 // An expression, some of its names, and what is sure on the bottom side and on the top side where these are seen.
 pub(crate) type SeenRow = (&'static str, &'static str, &'static str, &'static str);
@@ -101,7 +101,7 @@ fn sides<S: Seen>(seen: &S, noted: &Noted) -> &'static str {
     }
 }
 
-fn is_class_row(alloc: Global, row: TableRow) -> Result<bool, Fail> {
+fn is_class_row(alloc: Global, row: Row) -> Result<bool, Fail> {
     let (text, bottom, top, seen) = row;
     let noted = asserted(alloc, text)?;
     let none = Seed::new(alloc);
@@ -113,7 +113,7 @@ fn is_class_row(alloc: Global, row: TableRow) -> Result<bool, Fail> {
     )
 }
 
-fn is_range_row(alloc: Global, row: TableRow) -> Result<bool, Fail> {
+fn is_range_row(alloc: Global, row: Row) -> Result<bool, Fail> {
     let (text, bottom, top, seen) = row;
     let noted = ranged(alloc, text)?;
     let none = Seed::new(alloc);
@@ -146,7 +146,7 @@ fn is_seen_axiom_row(alloc: Global, row: SeenAxiomRow) -> Result<bool, Fail> {
 }
 
 // The first class expression of which the table says something else, or nothing.
-pub(crate) fn wrong_class(alloc: Global, rows: &[TableRow]) -> Result<&'static str, Fail> {
+pub(crate) fn wrong_class(alloc: Global, rows: &[Row]) -> Result<&'static str, Fail> {
     for row in rows.iter().copied() {
         if !is_class_row(alloc, row)? {
             return Ok(row.0);
@@ -156,7 +156,7 @@ pub(crate) fn wrong_class(alloc: Global, rows: &[TableRow]) -> Result<&'static s
 }
 
 // The first data range of which the table says something else, or nothing.
-pub(crate) fn wrong_range(alloc: Global, rows: &[TableRow]) -> Result<&'static str, Fail> {
+pub(crate) fn wrong_range(alloc: Global, rows: &[Row]) -> Result<&'static str, Fail> {
     for row in rows.iter().copied() {
         if !is_range_row(alloc, row)? {
             return Ok(row.0);

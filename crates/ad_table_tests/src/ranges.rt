@@ -1,12 +1,12 @@
 //! The table of data ranges.
-use crate::columns::{TableRow, letters, wrong_range};
+use crate::columns::{Row, letters, wrong_range};
 use ad_base::Side;
 use ad_local::range_surely;
 use ad_tree::{Many, Range, Seed};
 use std::test::Fail;
 
 #[rattlefmt::skip]
-static RANGES: [TableRow; 23] = [
+static RANGES: [Row; 23] = [
     ("<u:d>", "B", "TN", "-"),
     // a datatype that is built in has a value, and one of them has all
     ("rdfs:Literal", "TN", "TN", "TN"),

@@ -41,9 +41,7 @@ pub(crate) fn decomposed(
 {
     let order = live_slots(alloc, universe)?;
     let mut tally = Tally::new();
-    Decomposition::of::<FlatUniverse>(
-        rt, alloc, universe, limits, &order, &mut tally,
-    )
+    Decomposition::of::<FlatUniverse>(rt, alloc, universe, limits, &order, &mut tally)
 }
 
 // Frees the slot, where it is live.
