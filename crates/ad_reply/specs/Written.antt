@@ -18,7 +18,8 @@ use Rattle.ad_module_document.specs.declared.room.Room.{Room}
 use Rattle.ad_reply.specs.Bodies.{HasAtoms, IsAtomBody, IsModuleDocument, IsModuleText}
 use Rattle.ad_reply.specs.declared.atoms.Told.{Told}
 use Rattle.ad_reply.specs.declared.atoms.Told.TheVariants as told
-use Rattle.ad_reply.specs.Replies.{answered, reply_bytes}
+use Rattle.ad_request.specs.declared.request.Request.TheVariants.{Atom}
+use Rattle.ad_reply.specs.Replies.{Reply, IsReplyOn, answered, reply_bytes}
 
 -- the answer on the edition of this number has a body that is such a one, and it was written, or a front of it
 pub record PutsAnswer (is_body : List ℕ → Type 0) (number : ℕ) (old new : Option (List ℕ)) (wrote : Wrote) : Type 0 where
@@ -40,6 +41,12 @@ abbrev pub IsTold : Kind → ℕ → Shown → Option (List ℕ) → Option (Lis
 IsTold kind atom edition old new told.All = PutsAnswer (IsAtomBody kind atom edition.axioms) edition.number old new wrote.All
 IsTold kind atom edition old new (told.NoAtom count) = HasAtoms kind edition.axioms count × (count ≤ atom) × (new ≡ old)
 IsTold kind atom edition old new told.Failed = PutsAnswer (IsAtomBody kind atom edition.axioms) edition.number old new wrote.Failed
+
+-- the reply to a request for an atom of the edition was written, or a front of it: the atom's axioms, or how many atoms there are
+pub record PutsAtom (kind : Kind) (atom : ℕ) (edition : Shown) (old new : Option (List ℕ)) (wrote : Wrote) : Type 0 where
+  pub reply : Reply
+  pub is : (depth : ℕ) (payload : List ℕ) → IsReplyOn depth (Atom kind atom) payload edition.number edition.axioms reply
+  pub puts : Puts old new wrote (reply_bytes reply)
 
 -- the count of faults never falls, and telling fails only where it rises
 pub record ToldCause (before now : ℕ) (answer : Told) : Type 0 where
