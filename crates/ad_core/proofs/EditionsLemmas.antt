@@ -4,7 +4,7 @@ use Rattle.std.proofs.lemmas.Bool.{cases_eq}
 use Rattle.std.proofs.lemmas.List.{length_push, length-set, length-replicate, get_or-set_same, get_or-set_other, get_or-replicate, take-append-le, take_all}
 use Rattle.ad_base.specs.declared.limits.Limits.{Limits}
 use Rattle.ad_tree.specs.declared.edits.Op.{Op}
-use Rattle.ad_edition.specs.Apply.{applied}
+use Rattle.ad_apply.specs.Apply.{applied}
 use Rattle.ad_edition.specs.Log.{Logged, Shown, count_of, next_entry, replay, defined_by}
 use Rattle.ad_edition.specs.Limit.{Passed}
 use Rattle.ad_edition.specs.Edition.{Limited, IsEditionOf, first_of_all, next_edition, passed_by}

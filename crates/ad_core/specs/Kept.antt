@@ -4,16 +4,20 @@ use Rattle.std.specs.Option.{option_map}
 use Rattle.std.specs.Arc.{arc_value}
 use Rattle.std.specs.declared.sync.Arc.{Arc}
 use Rattle.ad_edition.specs.Log.{Logged, count_of}
-use Rattle.ad_edition.specs.Edition.{Limited}
+use Rattle.ad_edition.specs.Edition.{Limited, Whole, limited_of}
 use Rattle.ad_edition.specs.State.{State}
 use Rattle.ad_edition.specs.Editions.{AreEditionsOf}
 
--- the editions of their owners
-abbrev pub editions_in : {Z : Type 0} → List (Arc Limited Z) → List Limited
-editions_in {Z} owners = map (λ (owner : Arc Limited Z). arc_value owner) owners
+-- what the owner's edition shows, with its limits
+abbrev pub edition_in : {Z : Type 0} → Arc Whole Z → Limited
+edition_in {Z} owner = limited_of (arc_value owner)
 
-abbrev pub waiting_in : {Z : Type 0} → List (Option (Arc Limited Z)) → List (Option Limited)
-waiting_in {Z} waiting = map (option_map (λ (owner : Arc Limited Z). arc_value owner)) waiting
+-- and the same of owners
+abbrev pub editions_in : {Z : Type 0} → List (Arc Whole Z) → List Limited
+editions_in {Z} owners = map (λ (owner : Arc Whole Z). edition_in owner) owners
+
+abbrev pub waiting_in : {Z : Type 0} → List (Option (Arc Whole Z)) → List (Option Limited)
+waiting_in {Z} waiting = map (option_map (λ (owner : Arc Whole Z). edition_in owner)) waiting
 
 -- a session has entered as many entries as its edition's number says
 abbrev pub numbers_of : List Limited → List ℕ

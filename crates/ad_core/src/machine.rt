@@ -1,16 +1,18 @@
 ghost use Rattle.std.specs.Prelude.{◌≡◌, ◌<◌, ◌≤◌, ◌^◌, length, None, IfOk, IfErr, IsOk, OnOk, OnErr};
 ghost use Rattle.ad_base.specs.Limits.{AreWithinStandard};
 ghost use Rattle.ad_edition.specs.Log.{IsLog};
-ghost use Rattle.ad_edition.specs.Edition.{IsEditionOf, next_edition};
+ghost use Rattle.ad_edition.specs.Edition.{IsEditionOf, limited_of, next_edition};
 ghost use Rattle.ad_edition.specs.State.{at_first, entered_by, after_attend, after_commit, after_enter, after_look, first_passed, newest_of, receipt_after, IsMachine, IsRefusalOf};
 
-use crate::owners::{owners_of, waiting_for};
+use crate::owners::{owners_of, owners_of_next, waiting_for};
 use ad_base::{Limits, Memory};
 use ad_edition::{Draft, Edition, Entry, Receipt, Refused};
 use ad_tree::Batch;
 use std::alloc::Global;
+use std::hash::RandomState;
 use std::marker::Model;
 use std::sync::Arc;
+use std::thread::Threads;
 
 /// The log of accepted edits with its newest edition, and for each of its sessions the edition that the session has
 /// entered. One of the sessions looks.
@@ -32,25 +34,26 @@ pub struct Machine {
 }
 
 impl Model for Machine {
-    ghost use Rattle.std.specs.Arc.{arc_value};
     ghost use Rattle.ad_edition.specs.State.{State, state_code};
 
     ghost Value = { State };
 
     ghost coded = { state_code };
 
-    ghost use Rattle.ad_core.specs.Kept.{editions_in, waiting_in, state_in, IsKept};
+    ghost use Rattle.ad_core.specs.Kept.{edition_in, editions_in, waiting_in, state_in, IsKept};
 
-    ghost view = { λ m. state_in m.log.items (arc_value m.newest) (editions_in m.seen.items) m.session m.looks };
+    ghost view = { λ m. state_in m.log.items (edition_in m.newest) (editions_in m.seen.items) m.session m.looks };
 
-    ghost invariant = { λ m. IsKept m.log.items (arc_value m.newest) (editions_in m.seen.items) (waiting_in m.waiting.items) m.edits.items m.session m.workers };
+    ghost invariant = { λ m. IsKept m.log.items (edition_in m.newest) (editions_in m.seen.items) (waiting_in m.waiting.items) m.edits.items m.session m.workers };
 }
 
 impl Machine {
     /// A machine with 1 to 8 sessions, none of which has entered more than the empty log. From 1 to 16 workers may
-    /// extract modules side by side; what the machine answers doesn't depend on their number.
+    /// extract modules side by side; what the machine answers doesn't depend on their number. Names are hashed with
+    /// these keys.
     pub fn new(
         alloc: Global,
+        keys: RandomState,
         limits: Limits,
         sessions: u32,
         workers: u32,
@@ -60,7 +63,7 @@ impl Machine {
         requires workers { (1 ≤ workers) × (workers ≤ 16) }
         ensures { IfOk result (λ machine. machine ≡ at_first limits sessions) }
     {
-        let newest = Arc::new(alloc, Edition::empty(alloc, limits))?;
+        let newest = Arc::new(alloc, Edition::empty(alloc, keys, limits)?)?;
         let seen = owners_of(alloc, &newest, sessions)?;
         let waiting = waiting_for(alloc, &newest, sessions)?;
         let edits = vec![in alloc; 0; sessions as usize]?;
@@ -95,7 +98,7 @@ impl Machine {
 
     /// The newest edition: that of the whole log.
     pub fn newest(&self) -> &Edition
-        ensures edition { IsEditionOf self.now.limits self.now.log result.now }
+        ensures edition { IsEditionOf self.now.limits self.now.log (limited_of result.now) }
         ensures machine { IsMachine self.now }
     {
         &self.newest
@@ -104,7 +107,7 @@ impl Machine {
     /// The edition that a session has entered: that of a front of the log.
     pub fn seen(&self, session: u32) -> &Edition
         requires { session < length self.now.entered }
-        ensures { IsEditionOf self.now.limits (entered_by self.now session) result.now }
+        ensures { IsEditionOf self.now.limits (entered_by self.now session) (limited_of result.now) }
     {
         &self.seen[session as usize]
     }
@@ -131,8 +134,15 @@ impl Machine {
     }
 
     /// Appends the session's batch to the log, if no limit is passed, and makes the edition of the new log the newest.
-    /// Limits are looked at in the order axioms, editions. Nothing changes at a refusal.
-    pub fn commit(&mut self, alloc: Global, session: u32, batch: &Batch) -> Result<Receipt, Refused>
+    /// Limits are looked at in the order axioms, entities, bytes, editions. Nothing changes at a refusal. Threads share the
+    /// work.
+    pub fn commit(
+        &mut self,
+        rt: &(impl Threads + Sync),
+        alloc: Global,
+        session: u32,
+        batch: &Batch,
+    ) -> Result<Receipt, Refused>
         requires { session < length self.old.entered }
         ensures accepted { OnOk result (self.new ≡ after_commit self.old session batch.now) }
         ensures receipt { IfOk result (λ receipt. receipt ≡ receipt_after self.old batch.now) }
@@ -142,7 +152,7 @@ impl Machine {
     {
         let draft = self.newest.begin(alloc, batch)?;
         let receipt = draft.receipt();
-        self.publish(alloc, session, draft)?;
+        self.publish(rt, alloc, session, draft)?;
         Ok(receipt)
     }
 
@@ -166,14 +176,20 @@ impl Machine {
 
     // The edition that the session that looks has entered.
     pub(crate) fn shown(&self) -> &Edition
-        ensures { IsEditionOf self.now.limits (entered_by self.now self.now.session) result.now }
+        ensures { IsEditionOf self.now.limits (entered_by self.now self.now.session) (limited_of result.now) }
     {
         self.seen(self.session)
     }
 
     // Makes the draft's edition the newest, and its batch an entry of the session. All memory is taken before the
     // first change.
-    fn publish(&mut self, alloc: Global, session: u32, draft: Draft) -> Result<(), Memory>
+    fn publish(
+        &mut self,
+        rt: &(impl Threads + Sync),
+        alloc: Global,
+        session: u32,
+        mut draft: Draft,
+    ) -> Result<(), Memory>
         requires session { session < length self.old.entered }
         requires next { draft.next ≡ next_edition (newest_of self.old) draft.batch }
         requires fits { draft.next.shown.number < 2 ^ 32 }
@@ -182,9 +198,8 @@ impl Machine {
     {
         let at = session as usize;
         let sequence = self.edits[at] + 1;
-        let (next, entry) = draft.finish_for(session + 1, sequence);
-        let newest = Arc::new(alloc, next)?;
-        let waiting = waiting_for(alloc, &newest, self.sessions())?;
+        let entry = draft.take_entry(alloc, session + 1, sequence);
+        let (newest, waiting) = owners_of_next(rt, alloc, draft, self.sessions())?;
         self.log.push(entry)?;
         self.edits[at] = sequence;
         self.waiting = waiting;

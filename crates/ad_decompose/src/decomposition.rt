@@ -15,7 +15,7 @@ use ad_base::{Kind, Limits, Memory};
 use ad_depend::Covers;
 use ad_genuine::scratch;
 use ad_tables::{Atoms, Rows};
-use ad_theory::{Extractor, Tally, Universe};
+use ad_theory::{Tally, Universe};
 use std::alloc::Global;
 use std::marker::Model;
 use std::thread::Threads;
@@ -82,7 +82,7 @@ impl Decomposition {
     }
 
     /// Finds the decomposition of the live axioms, listed in the ontology's order, from scratch. Threads share the work.
-    pub fn of<U: Universe + Sync, E: Extractor + Send>(
+    pub fn of<U: Universe + Sync>(
         rt: &(impl Threads + Sync),
         alloc: Global,
         universe: &U,
@@ -101,7 +101,7 @@ impl Decomposition {
         ensures tests { tally.old.tests ≤ tally.new.tests }
         ensures counted { tally.old.runs ≤ tally.new.runs }
     {
-        let rows = scratch::<U, E>(rt, alloc, universe, limits, tally)?;
+        let rows = scratch::<U>(rt, alloc, universe, limits, tally)?;
         Decomposition::by_rows(alloc, rows, order)
     }
 

@@ -1,5 +1,4 @@
+pub mod LimitLemmas
+pub mod SlotLemmas
 pub mod OntologyLemmas
-pub mod PlacesLemmas
-pub mod WorkingLemmas
-pub mod StepLemmas
 pub mod LogLemmas

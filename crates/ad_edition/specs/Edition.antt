@@ -1,23 +1,26 @@
 -- What an edition holds, and how the next one is made of it.
-use Rattle.std.specs.Prelude.{◌≡◌, ℕ, ◌+◌, ◌≤◌, List, Option, Some, [], length, refl}
+use Rattle.std.specs.Prelude.{◌≡◌, ℕ, ◌+◌, ◌≤◌, List, Option, [], length, refl}
 use Rattle.std.specs.Coded.{Coded, code_by, coded×, coded_ℕ, coded_list}
-use Rattle.ad_base.specs.contracts.limits.Limits as limits_row
-use Rattle.ad_tree.specs.contracts.axioms.Noted as noted_row
-use Rattle.ad_tree.specs.contracts.edits.Op as op_row
 use Rattle.std.specs.List.{IsDistinct}
+use Rattle.ad_base.specs.contracts.limits.Limits as limits_row
 use Rattle.ad_base.specs.Limits.{AreWithinStandard}
 use Rattle.ad_base.specs.declared.limits.Limits.{Limits}
-use Rattle.ad_edition.specs.Same.{same_axiom}
+use Rattle.ad_tree.specs.contracts.axioms.Noted as noted_row
+use Rattle.ad_tree.specs.contracts.edits.Op as op_row
 use Rattle.ad_tree.specs.declared.axioms.Noted.{Noted}
 use Rattle.ad_tree.specs.declared.edits.Op.{Op}
-use Rattle.ad_write.specs.Canonical.{canon_document}
-use Rattle.ad_edition.specs.Apply.{applied, Counts, counts_of}
-use Rattle.ad_edition.specs.Log.{Logged, Shown, defined_by}
 use Rattle.ad_syntax_laws.specs.OntologyModule.{logical}
-use Rattle.ad_edition.specs.Limit.{Passed, passed}
+use Rattle.ad_write.specs.Canonical.{canon_document}
+use Rattle.ad_apply.specs.Apply.{applied, Counts, counts_of}
+use Rattle.ad_apply.specs.Same.{same_axiom}
+use Rattle.ad_slots.specs.Places.{is_held, held_symbols, is_held_local}
+use Rattle.ad_numbered.specs.Numbered.{InSlots, IsNumbered, in_slots_code, order_of}
+use Rattle.ad_decompose.specs.Decomposed.{Decomposed, IsDecomposition}
+use Rattle.ad_decompose.specs.contracts.decomposition.Decomposition as found_row
+use Rattle.ad_edition.specs.Limit.{IsRefusedBy, Passed, passed}
+use Rattle.ad_edition.specs.Log.{Logged, Shown, defined_by}
 use Rattle.ad_edition.specs.declared.receipts.Receipt.{Receipt}
 use Rattle.ad_edition.specs.declared.receipts.Refused.{Refused}
-use Rattle.ad_edition.specs.declared.receipts.Refused.TheVariants as refusals
 
 -- what an edition shows, and the limits that it and its successors keep to
 pub record Limited : Type 0 where
@@ -26,6 +29,20 @@ pub record Limited : Type 0 where
 
 abbrev pub limited_edition : ℕ → List Noted → Limits → Limited
 limited_edition number axioms limits = record { shown = record { number = number; axioms = axioms }; limits = limits }
+
+-- An edition whole: what it shows and the limits; its ontology in numbered slots; and the decomposition of it.
+pub record Whole : Type 0 where
+  pub shown : Shown
+  pub limits : Limits
+  pub numbered : InSlots
+  pub found : Decomposed
+
+abbrev pub whole : ℕ → Limits → InSlots → Decomposed → Whole
+whole number limits numbered found = record { shown = record { number = number; axioms = numbered.axioms }; limits = limits; numbered = numbered; found = found }
+
+-- what an edition shows, and its limits
+abbrev pub limited_of : Whole → Limited
+limited_of edition = record { shown = edition.shown; limits = edition.limits }
 
 -- the edition with these limits that a log defines
 pub record IsEditionOf (limits : Limits) (log : List Logged) (edition : Limited) : Type 0 where
@@ -36,8 +53,8 @@ pub record IsEditionOf (limits : Limits) (log : List Logged) (edition : Limited)
 abbrev pub first_of_all : Limits → Limited
 first_of_all limits = record { shown = defined_by []; limits = limits }
 
--- what the type of editions keeps, of the edition, of the count of logical axioms beside it, and of the length of its
--- document
+-- what the types of editions and drafts keep, of what one shows, of the count of logical axioms beside it, and of the
+-- length of its document
 pub record IsSound (edition : Limited) (count bytes : ℕ) : Type 0 where
   pub distinct : IsDistinct same_axiom edition.shown.axioms
   pub counted : count ≡ length (logical edition.shown.axioms)
@@ -46,6 +63,24 @@ pub record IsSound (edition : Limited) (count bytes : ℕ) : Type 0 where
   pub within : count ≤ edition.limits.axioms
   pub numbered : edition.shown.number ≤ edition.limits.editions
   pub standard : AreWithinStandard edition.limits
+
+-- the ontology has as many slots and numbers as the limits allow
+pub record FitsLimits (limits : Limits) (numbered : InSlots) : Type 0 where
+  pub slots : numbered.most ≡ limits.axioms
+  pub symbols : numbered.symbols ≡ limits.entities
+
+-- The decomposition is that of the ontology's logical axioms, in their order: their genuine modules, and of each kind the
+-- atoms and covers that these define, written in slots and in the numbers of atoms.
+abbrev pub IsDecompositionOf : InSlots → Decomposed → Type 0
+IsDecompositionOf numbered found = IsDecomposition (held_symbols numbered.held) (is_held_local numbered.held) (is_held numbered.held) numbered.most (order_of numbered) found
+
+-- What holds of every edition. Its axioms are distinct, the logical ones stand in slots, and its decomposition is theirs.
+pub record IsEdition (edition : Whole) : Type 0 where
+  pub axioms : edition.numbered.axioms ≡ edition.shown.axioms
+  pub distinct : IsDistinct same_axiom edition.shown.axioms
+  pub numbered : IsNumbered edition.numbered
+  pub fits : FitsLimits edition.limits edition.numbered
+  pub decomposed : IsDecompositionOf edition.numbered edition.found
 
 -- an edition that is about to follow another, with what the batch did and the batch itself
 pub record Drafted : Type 0 where
@@ -69,17 +104,21 @@ passed_by edition batch = passed edition.limits edition.shown.number (applied ed
 
 -- why a batch is refused on this edition: it passes a limit, the first of them, or memory is wanting
 abbrev pub IsRefusal : Limited → List Op → Refused → Type 0
-IsRefusal edition batch (refusals.Limit number which count) = (number ≡ edition.shown.number) × (passed_by edition batch ≡ Some (record { which = which; count = count }))
-IsRefusal edition batch refusals.Memory = Unit {0}
+IsRefusal edition batch cause = IsRefusedBy (passed_by edition batch) edition.shown.number cause
 
 -- the receipt of an edit that made the edition with this number
 abbrev pub receipt_of : ℕ → Counts → Receipt
 receipt_of number counts = record { number = number; added = counts.added; already = counts.already; removed = counts.removed; absent = counts.absent }
 
--- an edition is told apart by its number, its axioms and its limits
+-- what is shown under limits is told apart by its number, its axioms and its limits
 abbrev pub limited_code : Coded Limited
 limited_code =
     code_by (ℕ × (List Noted × Limits)) (coded× coded_ℕ (coded× (coded_list noted_row.the_row.coded) limits_row.the_row.coded)) (λ e. (e.shown.number, (e.shown.axioms, e.limits))) (λ p. limited_edition p.0 p.1.0 p.1.1) (λ _. refl)
+
+-- an edition whole is told apart by these, by its ontology in slots and by its decomposition
+abbrev pub whole_code : Coded Whole
+whole_code =
+    code_by (Limited × (InSlots × Decomposed)) (coded× limited_code (coded× in_slots_code found_row.the_row.coded)) (λ e. (limited_of e, (e.numbered, e.found))) (λ p. record { shown = p.0.shown; limits = p.0.limits; numbered = p.1.0; found = p.1.1 }) (λ _. refl)
 
 -- a draft, by its edition, its four counts and its batch
 abbrev pub drafted_code : Coded Drafted

@@ -1,5 +1,3 @@
-pub mod Same
-pub mod Apply
 pub mod Log
 pub mod Limit
 pub mod Sight
@@ -7,7 +5,4 @@ pub mod Edition
 pub mod State
 pub mod Editions
 pub mod Events
-pub mod Places
-pub mod Steps
-pub mod Working
 pub mod Laws

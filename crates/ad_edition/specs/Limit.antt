@@ -1,10 +1,12 @@
 -- The first limit that an edit passes, with the count that passes it.
-use Rattle.std.specs.Prelude.{◌≡◌, ℕ, ◌+◌, cond, List, Option, None, Some, Result, Ok, Err, nat_lt, length}
+use Rattle.std.specs.Prelude.{◌≡◌, ℕ, ◌+◌, ◌-◌, ◌^◌, ◌<◌, cond, List, Option, None, Some, nat_lt, length, min}
 use Rattle.ad_base.specs.declared.limits.Which.{Which}
 use Rattle.ad_base.specs.declared.limits.Which.TheVariants as limits
 use Rattle.ad_base.specs.declared.limits.Limits.{Limits}
 use Rattle.ad_tree.specs.declared.axioms.Noted.{Noted}
 use Rattle.ad_syntax_laws.specs.OntologyModule.{logical}
+use Rattle.ad_write.specs.Canonical.{canon_document}
+use Rattle.ad_numbered.specs.Numbered.{entities_of}
 use Rattle.ad_edition.specs.declared.receipts.Refused.{Refused}
 use Rattle.ad_edition.specs.declared.receipts.Refused.TheVariants as refusals
 
@@ -16,16 +18,30 @@ pub record Passed : Type 0 where
 abbrev pub first_of : Which → ℕ → ℕ → Option Passed → Option Passed
 first_of which limit count later = cond (nat_lt limit count) (Some (record { which = which; count = count })) later
 
--- of an edition of this number that would be followed by one with so many logical axioms
-abbrev pub passed_with : Limits → ℕ → ℕ → Option Passed
-passed_with l number axioms = first_of limits.Axioms l.axioms axioms (first_of limits.Editions l.editions (number + 1) None)
+-- the first limit that is passed by so many bytes of a document, and by the number after this one
+abbrev pub passed_by_size : Limits → ℕ → ℕ → Option Passed
+passed_by_size l number bytes = first_of limits.Bytes l.bytes bytes (first_of limits.Editions l.editions (number + 1) None)
 
--- of an edition of this number that would be followed by one with this ontology
+-- the length of the ontology's document, as far as it is counted
+abbrev pub document_count : List Noted → ℕ
+document_count ontology = min (length (canon_document ontology)) (2 ^ 64 - 1)
+
+-- the first limit that is passed where this ontology follows the edition of this number: the limits on its logical axioms,
+-- on the entities in their signatures, on the bytes of its document, and on the number
 abbrev pub passed : Limits → ℕ → List Noted → Option Passed
-passed l number after = passed_with l number (length (logical after))
+passed l number after =
+    first_of limits.Axioms l.axioms (length (logical after))
+    (first_of limits.Entities l.entities (length (entities_of (logical after)))
+    (passed_by_size l number (document_count after)))
 
--- an answer names the first limit that is passed, on the edition of this number, or says that none is
-abbrev pub Names : Option Passed → ℕ → Result (Unit {0}) Refused → Type 0
-Names first number (Ok u) = first ≡ None
-Names first number (Err (refusals.Limit edition which count)) = (edition ≡ number) × (first ≡ Some (record { which = which; count = count }))
-Names first number (Err refusals.Memory) = ⊥
+-- why an edit is refused on the edition of this number, where this is the first limit that is passed; want of memory
+-- comes at any time
+abbrev pub IsRefusedBy : Option Passed → ℕ → Refused → Type 0
+IsRefusedBy first number (refusals.Limit edition which count) = (edition ≡ number) × (first ≡ Some (record { which = which; count = count }))
+IsRefusedBy first number refusals.Memory = Unit {0}
+
+-- the entities of this ontology are above the limit, so many; want of memory comes at any time
+abbrev pub HasManyEntities : Limits → ℕ → List Noted → Refused → Type 0
+HasManyEntities l number after (refusals.Limit edition which count) =
+    (edition ≡ number) × (which ≡ limits.Entities) × (l.entities < count) × (count ≡ length (entities_of (logical after)))
+HasManyEntities l number after refusals.Memory = Unit {0}

@@ -4,7 +4,7 @@ use Rattle.std.specs.Coded.{Coded, code_by, coded×, coded_ℕ, coded_list}
 use Rattle.ad_tree.specs.contracts.edits.Op as op_row
 use Rattle.ad_tree.specs.declared.axioms.Noted.{Noted}
 use Rattle.ad_tree.specs.declared.edits.Op.{Op}
-use Rattle.ad_edition.specs.Apply.{applied}
+use Rattle.ad_apply.specs.Apply.{applied}
 
 -- an accepted edit: whose it is, which of that ticket's edits, and its operations
 pub record Logged : Type 0 where

@@ -5,7 +5,7 @@ use Rattle.ad_base.specs.contracts.limits.Limits as limits_row
 use Rattle.ad_base.specs.declared.limits.Limits.{Limits}
 use Rattle.ad_io.specs.Flow.{raised}
 use Rattle.ad_tree.specs.declared.edits.Op.{Op}
-use Rattle.ad_edition.specs.Apply.{counts_of}
+use Rattle.ad_apply.specs.Apply.{counts_of}
 use Rattle.ad_edition.specs.Log.{Logged, logged_code, IsLog, next_entry, replay, defined_by}
 use Rattle.ad_edition.specs.Limit.{Passed}
 use Rattle.ad_edition.specs.Edition.{Limited, IsRefusal, passed_by, receipt_of}

@@ -1,7 +1,7 @@
 ghost use Rattle.std.specs.Prelude.{◌≡◌, List, IsOk};
 ghost use Rattle.ad_base.specs.declared.limits.Limits.{Limits};
 ghost use Rattle.ad_edition.specs.Log.{Logged};
-ghost use Rattle.ad_edition.specs.Edition.{IsEditionOf};
+ghost use Rattle.ad_edition.specs.Edition.{IsEditionOf, limited_of};
 ghost use Rattle.ad_edition.specs.Sight.{Sight, Footing, LookIs, Reaches};
 
 use crate::edition::Edition;
@@ -35,5 +35,5 @@ pub trait Look {
 
     /// The edition at hand.
     fn edition(&self) -> &Edition
-        ensures { IsEditionOf (limits self.now) (shown self.now) result.now };
+        ensures { IsEditionOf (limits self.now) (shown self.now) (limited_of result.now) };
 }

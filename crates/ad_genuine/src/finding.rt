@@ -11,13 +11,13 @@ use crate::tables::rows_for;
 use ad_base::{Limits, Memory};
 use ad_groups::grouped;
 use ad_tables::Rows;
-use ad_theory::{Extractor, Tally, Universe};
+use ad_theory::{Tally, Universe};
 use std::alloc::Global;
 use std::thread::Threads;
 
 /// The genuine modules of all three kinds of every live axiom. Each is found once for all axioms with the same signature,
 /// and threads share the work.
-pub fn scratch<U: Universe + Sync, E: Extractor + Send>(
+pub fn scratch<U: Universe + Sync>(
     rt: &(impl Threads + Sync),
     alloc: Global,
     universe: &U,

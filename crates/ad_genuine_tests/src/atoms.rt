@@ -9,10 +9,8 @@ use ad_base::{Kind, Limits, Memory};
 use ad_bits::Row;
 use ad_decompose::{Decomposition, live_slots};
 use ad_depend::Covers;
-use ad_extract::Queue;
 use ad_flat::FlatUniverse;
 use ad_read::read_document;
-use ad_star::Starred;
 use ad_tables::Atoms;
 use ad_theory::Tally;
 use std::alloc::{AllocError, Global};
@@ -51,14 +49,7 @@ fn decomposed(
 {
     let order = live_slots(alloc, universe)?;
     let mut tally = Tally::new();
-    Decomposition::of::<FlatUniverse, Starred<Queue>>(
-        rt,
-        alloc,
-        universe,
-        &limits(),
-        &order,
-        &mut tally,
-    )
+    Decomposition::of::<FlatUniverse>(rt, alloc, universe, &limits(), &order, &mut tally)
 }
 
 // Writes the atom of each slot below the count.

@@ -5,11 +5,9 @@ ghost use Rattle.ad_flat.specs.Universes.{most_in, symbols_in};
 use crate::universe::{MOST, limits, universe_of};
 use ad_base::{Kind, Limits, Memory};
 use ad_bits::Row;
-use ad_extract::Queue;
 use ad_flat::FlatUniverse;
 use ad_genuine::scratch;
 use ad_read::read_document;
-use ad_star::Starred;
 use ad_tables::Rows;
 use ad_theory::Tally;
 use std::alloc::{AllocError, Global};
@@ -46,7 +44,7 @@ fn found(
     requires symbols { symbols_in universe.now ≡ MOST }
 {
     let mut tally = Tally::new();
-    let rows = scratch::<FlatUniverse, Starred<Queue>>(rt, alloc, universe, &limits(), &mut tally)?;
+    let rows = scratch::<FlatUniverse>(rt, alloc, universe, &limits(), &mut tally)?;
     Ok((rows, tally.runs()))
 }
 

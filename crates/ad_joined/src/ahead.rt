@@ -19,13 +19,13 @@ use std::sync::Arc;
 // A module with fewer axioms costs less to search than to join.
 const LARGE: u32 = 32;
 
-/// What was found so far for some slots: the rows of some of them, by their places, and the larger ones by slots, to be
-/// joined.
+// What was found so far for some slots: the rows of some of them, by their places, and the larger ones by slots, to be
+// joined.
 #[derive(Drop)]
-pub struct Ahead {
-    pub search: Search,
-    pub wholes: Vec<Option<Whole>>,
-    pub rows: Vec<Option<Arc<Row>>>,
+pub(crate) struct Ahead {
+    pub(crate) search: Search,
+    pub(crate) wholes: Vec<Option<Whole>>,
+    pub(crate) rows: Vec<Option<Arc<Row>>>,
 }
 
 // So many places with nothing.

@@ -3,11 +3,8 @@
 //! within what the modules of the two sides have in common.
 #![tactic(auto)]
 
-pub use ahead::Ahead;
-pub use search::Search;
 pub use sides::side_rows;
 pub use stars::star_rows;
-pub use whole::Whole;
 
 mod ahead;
 mod join;

@@ -15,13 +15,13 @@ use ad_extract::reach_all;
 use ad_theory::{Tally, Universe, empty_row};
 use std::alloc::Global;
 
-/// What searches for modules, with the room that it needs: what it found last, and its stack.
+// What searches for modules, with the room that it needs: what it found last, and its stack.
 #[derive(Drop)]
-pub struct Search {
-    /// The axioms of the module that was found last.
-    pub out: Row,
-    /// Their symbols, with the signature that was searched for.
-    pub reached: Row,
+pub(crate) struct Search {
+    // The axioms of the module that was found last.
+    pub(crate) out: Row,
+    // Their symbols, with the signature that was searched for.
+    pub(crate) reached: Row,
     left: Row,
     pending: Vec<u32>,
     ghost room: { length reached ≤ vec_capacity pending },
@@ -116,8 +116,8 @@ fn run<U: Universe>(
 }
 
 impl Search {
-    /// Takes all the memory that searching over so many slots and symbols needs.
-    pub fn new(alloc: Global, slots: u32, symbols: u32) -> Result<Search, Memory>
+    // Takes all the memory that searching over so many slots and symbols needs.
+    pub(crate) fn new(alloc: Global, slots: u32, symbols: u32) -> Result<Search, Memory>
         ensures out { IfOk result (λ search. length search.out ≡ slots) }
         ensures reached { IfOk result (λ search. length search.reached ≡ symbols) }
     {
@@ -129,9 +129,9 @@ impl Search {
         })
     }
 
-    /// Finds the module of a side for the signature of the slot's axiom. Those that were found before are joined whole
-    /// where the search meets their axioms.
-    pub fn find<U: Universe>(
+    // Finds the module of a side for the signature of the slot's axiom. Those that were found before are joined whole
+    // where the search meets their axioms.
+    pub(crate) fn find<U: Universe>(
         &mut self,
         universe: &U,
         side: Side,

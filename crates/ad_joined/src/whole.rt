@@ -4,11 +4,11 @@ use ad_base::Memory;
 use ad_bits::Row;
 use std::alloc::Global;
 
-/// The module for an axiom's signature, and that signature with the module's symbols.
+// The module for an axiom's signature, and that signature with the module's symbols.
 #[derive(Drop)]
-pub struct Whole {
-    pub row: Row,
-    pub closure: Row,
+pub(crate) struct Whole {
+    pub(crate) row: Row,
+    pub(crate) closure: Row,
 }
 
 // A row with the members of another.

@@ -1,2 +1,4 @@
 pub mod AnswerLemmas
 pub mod CauseLemmas
+pub mod FoundLemmas
+pub mod AtomLemmas

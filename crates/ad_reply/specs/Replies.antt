@@ -10,7 +10,7 @@ use Rattle.ad_lines.specs.Lines.{line_of}
 use Rattle.ad_read.specs.declared.texts.ReadRefused.{ReadRefused}
 use Rattle.ad_read.specs.declared.texts.ReadRefused.TheVariants as texts
 use Rattle.ad_write.specs.Keywords as kw
-use Rattle.ad_edition.specs.Apply.{Counts}
+use Rattle.ad_apply.specs.Apply.{Counts}
 use Rattle.ad_edition.specs.declared.receipts.Receipt.{Receipt}
 use Rattle.ad_reply.specs.declared.cause.Cause.{Cause}
 use Rattle.ad_reply.specs.declared.cause.Cause.TheVariants as causes

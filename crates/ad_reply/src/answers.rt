@@ -1,20 +1,21 @@
-ghost use Rattle.std.specs.Prelude.{◌≡◌, ◌+◌, length, map, IfOk, OnErr};
+ghost use Rattle.std.specs.Prelude.{◌≡◌, ◌≤◌, length};
+ghost use Rattle.ad_base.specs.declared.limits.Kind.{Kind};
 ghost use Rattle.ad_io.specs.Sink.{Puts, PutCause};
-ghost use Rattle.ad_base.specs.Kinds.{kind_of};
-ghost use Rattle.ad_write.specs.Canonical.{canon, canon_document};
+ghost use Rattle.ad_theory.specs.Tally.{IsRaisedBy};
+ghost use Rattle.ad_write.specs.Canonical.{canon_document};
+ghost use Rattle.ad_module_document.specs.Documents.{HoldModule, IsRoomFor, document_in};
 ghost use Rattle.ad_reply.specs.Replies.{accepted, answer_line, answered, reply_bytes};
-ghost use Rattle.ad_reply.specs.Written.{PutsModule};
-ghost use Rattle.ad_syntax_laws.specs.OntologyModule.{axioms_of};
+ghost use Rattle.ad_reply.specs.Written.{AreToolsOf, PutsModule};
 
 use crate::counts::CountsText;
-use ad_base::{Memory, Side};
+use ad_base::Kind;
 use ad_edition::{Edition, Receipt};
 use ad_io::{Sink, Wrote, put_each};
 use ad_lines::Decimal;
-use ad_sweep::document_of;
-use ad_tree::{Noted, Op, Seed};
-use ad_write::{EMPTY_DOCUMENT, document_length, size, write_document};
-use std::alloc::Global;
+use ad_module_document::{Room, found_documents};
+use ad_theory::{Extractor, Tally};
+use ad_tree::Seed;
+use ad_write::write_document;
 
 /// Writes the whole ontology of the edition. It takes no memory.
 pub fn export_reply<K: Sink>(edition: &Edition, sink: &mut K) -> Wrote
@@ -27,21 +28,53 @@ pub fn export_reply<K: Sink>(edition: &Edition, sink: &mut K) -> Wrote
     }
 }
 
-/// Writes the module of the edition for the seed. Where memory is wanting nothing is written.
-pub fn module_reply<K: Sink>(
-    alloc: Global,
+/// Writes the module of the edition for the seed, which is found with this bench and room. It takes no memory.
+pub fn module_reply<K: Sink, E: Extractor>(
     edition: &Edition,
-    side: Side,
+    kind: Kind,
     seed: &Seed,
+    bench: &mut E,
+    room: &mut Room,
     sink: &mut K,
-) -> Result<Wrote, Memory>
-    ensures reply { IfOk result (PutsModule (kind_of side) edition.now.shown seed.now (K.written sink.old) (K.written sink.new)) }
-    ensures cause { IfOk result (PutCause (K.faults sink.old) (K.faults sink.new)) }
-    ensures memory { OnErr result (sink.new ≡ sink.old) }
+    tally: &mut Tally,
+) -> Wrote
+    requires { AreToolsOf edition.now.limits (E.made_for bench.old) room.old }
+    ensures reply { PutsModule kind edition.now.shown seed.now (K.written sink.old) (K.written sink.new) result }
+    ensures cause { PutCause (K.faults sink.old) (K.faults sink.new) result }
+    ensures tools { AreToolsOf edition.now.limits (E.made_for bench.new) room.new }
+    ensures tests { tally.old.tests ≤ tally.new.tests }
+    ensures runs { IsRaisedBy 1 tally.old.runs tally.new.runs }
 {
-    let found = document_of(alloc, side, edition.axioms(), seed)?;
-    let bytes = document_bytes(found.ops())?;
-    Ok(put_module(edition.number(), bytes, found.ops(), sink))
+    edition.laws();
+    let ontology = edition.ontology();
+    room.find(ontology, kind, seed, bench, tally);
+    put_found(edition, seed, room, sink)
+}
+
+// Writes the module that was found.
+fn put_found<K: Sink>(edition: &Edition, seed: &Seed, room: &Room, sink: &mut K) -> Wrote
+    requires { IsRoomFor edition.now.limits.axioms edition.now.limits.entities room.now }
+    ensures reply { (kind : Kind) → HoldModule kind edition.now.numbered seed.now room.now.members room.now.closure →
+        PutsModule kind edition.now.shown seed.now (K.written sink.old) (K.written sink.new) result }
+    ensures cause { PutCause (K.faults sink.old) (K.faults sink.new) result }
+{
+    edition.laws();
+    found_documents();
+    let bytes = found_bytes(edition, seed, room);
+    match put_answer_line(edition.number(), bytes, sink) {
+        Wrote::All => room.write_document(edition.ontology(), seed, sink),
+        Wrote::Failed => Wrote::Failed,
+    }
+}
+
+// How many bytes the document of the found module has.
+fn found_bytes(edition: &Edition, seed: &Seed, room: &Room) -> u64
+    requires { IsRoomFor edition.now.limits.axioms edition.now.limits.entities room.now }
+    ensures { result ≡ length (canon_document (document_in edition.now.numbered seed.now room.now.members room.now.closure)) }
+{
+    edition.laws();
+    let _bytes = edition.bytes();
+    room.document_size(edition.ontology(), seed)
 }
 
 /// Writes what an accepted edit did. It takes no memory.
@@ -67,37 +100,4 @@ fn put_answer_line<K: Sink>(edition: u32, bytes: u64, sink: &mut K) -> Wrote
         sink,
         &[b"OK ", edition.as_bytes(), b" ", bytes.as_bytes(), b"\n"],
     )
-}
-
-// Writes the reply that has this module, whose document has that many bytes.
-fn put_module<K: Sink>(edition: u32, bytes: u64, found: &[Op], sink: &mut K) -> Wrote
-    requires { bytes ≡ length (canon_document (axioms_of found.now)) }
-    ensures bytes { Puts (K.written sink.old) (K.written sink.new) result (reply_bytes (answered edition (canon_document (axioms_of found.now)))) }
-    ensures cause { PutCause (K.faults sink.old) (K.faults sink.new) result }
-{
-    match put_answer_line(edition, bytes, sink) {
-        Wrote::All => write_document(found, sink),
-        Wrote::Failed => Wrote::Failed,
-    }
-}
-
-// How many bytes the document of these axioms has. No memory holds one that a u64 doesn't count.
-fn document_bytes(found: &[Op]) -> Result<u64, Memory>
-    ensures { IfOk result (λ bytes. bytes ≡ length (canon_document (axioms_of found.now))) }
-{
-    document_length();
-    let mut bytes = EMPTY_DOCUMENT;
-    for op in found {
-        bytes = with_line(bytes, &op.noted)?;
-    }
-    Ok(bytes)
-}
-
-// So many bytes, and those of the line of one more axiom.
-fn with_line(bytes: u64, noted: &Noted) -> Result<u64, Memory>
-    ensures { IfOk result (λ more. more ≡ bytes + length (canon noted.now) + 1) }
-{
-    let line = size(noted).checked_add(1).ok_or(Memory)?;
-    let more = bytes.checked_add(line).ok_or(Memory)?;
-    Ok(more)
 }

@@ -1,7 +1,4 @@
-pub mod WordLemmas
-pub mod CauseLemmas
 pub mod NoteLemmas
 pub mod RunLemmas
 pub mod EndLemmas
 pub mod ScriptLemmas
-pub mod CommandLemmas

@@ -3,21 +3,22 @@ use Rattle.std.proofs.Common.{◌≡◌, ◌⊎◌, inl, inr, ℕ, ◌+◌, ◌�
 use Rattle.std.specs.Prelude.{Option, None, Some, IsSome}
 use Rattle.std.proofs.lemmas.List.{append-nil}
 use Rattle.ad_io.specs.Flow.{LosesExactly, NotRisen}
-use Rattle.ad_base.specs.declared.limits.Kind.{Kind}
 use Rattle.ad_session.specs.Flows.{Flow}
 use Rattle.ad_tree.specs.declared.axioms.Noted.{Noted}
-use Rattle.ad_entity.specs.declared.entities.Entity.{Entity}
 use Rattle.ad_run.specs.declared.status.Status.{Status}
 use Rattle.ad_run.specs.declared.status.Status.TheVariants.{Done, Usage, Refused, Cut, TooLong, Spent, ReadFault, WriteFault, Memory}
 use Rattle.ad_run.specs.Statuses.{code_of}
-use Rattle.ad_run.specs.Command.{Command, IsCommand, reads, of_module, of_script}
-use Rattle.ad_run.specs.Output.{IsOntology, IsNoOntology}
+use Rattle.ad_command.specs.Asks.{IsSomeDocument}
+use Rattle.ad_command.specs.Command.{Command, IsCommand, reads}
+use Rattle.ad_command.proofs.CommandLemmas.{one_input}
+use Rattle.ad_documents.specs.Output.{IsOntology, IsNoOntology}
 use Rattle.ad_reply.specs.declared.refusal.Refusal.{Refusal}
-use Rattle.ad_run.specs.Causes.{IsUnfitFor, IsUnfit}
+use Rattle.ad_documents.specs.Causes.{IsUnfitFor}
+use Rattle.ad_run.specs.Causes.{IsUnfit}
 use Rattle.ad_run.specs.Inputs.{IsRead, payload_limit}
 use Rattle.ad_run.specs.Ends.{DocumentEnds, EndsOn, Ran, EndsSo, IsRefused}
-use Rattle.ad_run.specs.Runs.{RunCause, IsSomeModule}
-use Rattle.ad_run.proofs.CauseLemmas.{apart}
+use Rattle.ad_run.specs.Runs.{RunCause}
+use Rattle.ad_documents.proofs.CauseLemmas.{apart}
 
 -- a source that tells a text and was read to its end had just this text
 pub read_whole : (left left' : Option (List ℕ)) (text found : List ℕ) → left ≡ Some text → IsSome left' → IsRead left left' found → found ≡ text
@@ -39,19 +40,13 @@ lost_more (Some xs) (Some ys) text n e some h =
     let whole : length text ≡ length (h.bytes ++ ys) = ap length (sym same ∙ lost) in
     omega (arith, whole, length-append h.bytes ys, h.counted)
 
--- no words are those of a module and of a session
-pub not_both : (words : List (List ℕ)) (kind : Kind) (seed : List Entity) (workers : Option ℕ) → IsCommand words (of_module kind seed) → IsCommand words (of_script workers) → ⊥
-not_both words kind seed None m s = let same : codes "module" ≡ codes "script" = ap (λ ws. get_or ws 0 []) (sym m.spelled ∙ s.spelled) in let first : 109 ≡ 115 = ap (λ (w : List ℕ). get_or w 0 0) same in omega (arith, first)
-not_both words kind seed (Some workers) m s = let same : codes "module" ≡ codes "script" = ap (λ ws. get_or ws 0 []) (sym m.spelled ∙ s.spelled) in let first : 109 ≡ 115 = ap (λ (w : List ℕ). get_or w 0 0) same in omega (arith, first)
-
--- words of a module ran a command on a document
-as_document : (words : List (List ℕ)) (a b : Flow) (command : Command) (s : Status) → IsSomeModule words → IsCommand words command → EndsOn (reads command) command a b s → DocumentEnds command a b s
-as_document words a b (of_module kind seed) s m is h = h
-as_document words a b (of_script workers) s m is h = absurd (not_both words m.kind m.seed workers m.commanded is)
+-- words of a command on a document ran one on a document
+as_document : (words : List (List ℕ)) (a b : Flow) (command : Command) (s : Status) → IsSomeDocument words → IsCommand words command → EndsOn (reads command) command a b s → DocumentEnds command a b s
+as_document words a b command s some is h = subst (λ input. EndsOn input command a b s) (one_input words command some.command is some.commanded ∙ some.document) h
 
 module _ (words : List (List ℕ)) (a b : Flow) (text : List ℕ) (told : a.left ≡ Some text) (tells : IsSome b.left) where
   -- what a command on a document did
-  on_document : (s : Status) → IsSomeModule words → (ran : Ran words a b s) → DocumentEnds ran.command a b s
+  on_document : (s : Status) → IsSomeDocument words → (ran : Ran words a b s) → DocumentEnds ran.command a b s
   on_document s m ran = as_document words a b ran.command s m ran.commanded ran.ran
 
   -- a document that is refused has no ontology
@@ -73,10 +68,10 @@ module _ (words : List (List ℕ)) (a b : Flow) (text : List ℕ) (told : a.left
 
   -- a text of an ontology is answered
   pub answered : (s : Status) (ontology : List Noted) → EndsSo words a b s → RunCause a b s
-      → IsSomeModule words → length text ≤ payload_limit → IsOntology text ontology → NotRisen a.read_faults b.read_faults → NotRisen a.write_faults b.write_faults
+      → IsSomeDocument words → length text ≤ payload_limit → IsOntology text ontology → NotRisen a.read_faults b.read_faults → NotRisen a.write_faults b.write_faults
       → (code_of s ≡ 0) ⊎ (code_of s ≡ 6)
   answered Done ontology ran cause some short found reads writes = inl refl
-  answered Usage ontology ran cause some short found reads writes = absurd (ran (of_module some.kind some.seed) some.commanded)
+  answered Usage ontology ran cause some short found reads writes = absurd (ran some.command some.commanded)
   answered (Refused refusal) ontology ran cause some short found reads writes = absurd (fits ontology short found (unfit_text refusal (on_document (Refused refusal) some ran).0))
   answered Cut ontology ran cause some short found reads writes = absurd (on_document Cut some ran)
   answered TooLong ontology ran cause some short found reads writes = absurd (on_document TooLong some ran)
@@ -87,10 +82,10 @@ module _ (words : List (List ℕ)) (a b : Flow) (text : List ℕ) (told : a.left
 
   -- any other text is refused
   pub refuses : (s : Status) → EndsSo words a b s → RunCause a b s
-      → IsSomeModule words → IsNoOntology text ⊎ (payload_limit < length text) → NotRisen a.read_faults b.read_faults → NotRisen a.write_faults b.write_faults
+      → IsSomeDocument words → IsNoOntology text ⊎ (payload_limit < length text) → NotRisen a.read_faults b.read_faults → NotRisen a.write_faults b.write_faults
       → (code_of s ≡ 3) ⊎ (code_of s ≡ 6)
   refuses Done ran cause some unfit reads writes = let done = done_text ran.command (on_document Done some ran) in absurd (fits done.0 done.2 done.1 unfit)
-  refuses Usage ran cause some unfit reads writes = absurd (ran (of_module some.kind some.seed) some.commanded)
+  refuses Usage ran cause some unfit reads writes = absurd (ran some.command some.commanded)
   refuses (Refused refusal) ran cause some unfit reads writes = inl refl
   refuses Cut ran cause some unfit reads writes = inl refl
   refuses TooLong ran cause some unfit reads writes = inl refl

@@ -14,11 +14,12 @@ use Rattle.ad_session.specs.declared.ends.End.TheVariants as ends
 use Rattle.ad_run.specs.declared.status.Status.{Status}
 use Rattle.ad_run.specs.declared.status.Status.TheVariants.{Done, Usage, Refused, Cut, TooLong, Spent, ReadFault, WriteFault, Memory}
 use Rattle.ad_run.specs.Statuses.{code_of}
-use Rattle.ad_run.specs.Command.{Command, IsCommand, reads, of_module, of_script}
+use Rattle.ad_command.specs.Asks.{IsSomeScript}
+use Rattle.ad_command.specs.Command.{Command, IsCommand, reads, of_script}
+use Rattle.ad_command.proofs.CommandLemmas.{one_input}
 use Rattle.ad_base.specs.Limits.{standard}
 use Rattle.ad_run.specs.Ends.{EndsOn, Ran, EndsSo, ScriptEnds, RunsSession, IsClosing}
-use Rattle.ad_run.specs.Runs.{RunCause, IsSomeScript, code_at}
-use Rattle.ad_run.proofs.RunLemmas.{not_both}
+use Rattle.ad_run.specs.Runs.{RunCause, code_at}
 
 -- what was taken and what is left are the whole input
 split_of : (bounds : Bounds) (ending : Ending) (a b : Flow) (items : List Item) (replies : List Reply) (text : List ℕ) (left : Option (List ℕ)) → a.left ≡ Some text → b.left ≡ left → IsSome left
@@ -45,8 +46,7 @@ IsBreak ends.ReadFault = ⊥
 IsBreak ends.WriteFault = ⊥
 
 as_session : (words : List (List ℕ)) (a b : Flow) (command : Command) (status : Status) → IsSomeScript words → IsCommand words command → EndsOn (reads command) command a b status → ScriptEnds a b status
-as_session words a b (of_module kind seed) status some is h = absurd (not_both words kind seed some.workers is some.commanded)
-as_session words a b (of_script workers) status some is h = h
+as_session words a b command status some is h = subst (λ input. EndsOn input command a b status) (one_input words command (of_script some.workers) is some.commanded) h
 
 module _ (words : List (List ℕ)) (a b : Flow) (text : List ℕ) (told : a.left ≡ Some text) (tells : IsSome b.left) (s : Split) (is : Items (bounds_of standard) 0 text s.items s.ending s.taken s.left) where
   ending_is : (ending : Ending) (items : List Item) (replies : List Reply) → AreItems (bounds_of standard) 0 items → EndsAs (bounds_of standard) ending (length items) a b items replies → ending ≡ s.ending

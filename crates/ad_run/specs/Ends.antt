@@ -12,10 +12,10 @@ use Rattle.ad_session.specs.declared.ends.End.TheVariants as ends
 use Rattle.ad_run.specs.declared.status.Status.{Status}
 use Rattle.ad_run.specs.declared.status.Status.TheVariants.{Done, Usage, Refused, Cut, TooLong, Spent, ReadFault, WriteFault, Memory}
 use Rattle.ad_run.specs.Statuses.{code_of}
-use Rattle.ad_run.specs.Command.{Command, IsCommand, IsNoCommand, Input, reads, a_document, a_session}
+use Rattle.ad_command.specs.Command.{Command, IsCommand, IsNoCommand, Input, reads, a_document, a_session}
 use Rattle.ad_run.specs.Causes.{IsUnfit}
 use Rattle.ad_run.specs.Inputs.{IsRead}
-use Rattle.ad_run.specs.Output.{IsOutput}
+use Rattle.ad_documents.specs.Output.{IsOutput}
 
 -- the source was read to its end, and this is the command's output on its text
 pub record Finds (command : Command) (a b : Flow) (output : List ℕ) : Type 0 where

@@ -1,11 +1,6 @@
-pub mod Command
-pub mod Words
 pub mod Statuses
 pub mod Notes
-pub mod Output
 pub mod Inputs
 pub mod Causes
 pub mod Ends
-pub mod Answered
 pub mod Runs
-pub mod Asks

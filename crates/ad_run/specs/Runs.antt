@@ -1,30 +1,10 @@
--- Which commands the words are, and the exit status of a session.
-use Rattle.std.specs.Prelude.{◌≡◌, ℕ, ◌≤◌, List, Option}
-use Rattle.ad_base.specs.declared.limits.Kind.{Kind}
+-- The exit status of a session, and the counts of faults.
+use Rattle.std.specs.Prelude.{◌≡◌, ℕ, ◌≤◌}
 use Rattle.ad_io.specs.Flow.{Rose}
 use Rattle.ad_items.specs.Items.{Ending, quit, closed, cut, too_long, spent}
 use Rattle.ad_session.specs.Flows.{Flow}
-use Rattle.ad_entity.specs.declared.entities.Entity.{Entity}
 use Rattle.ad_run.specs.declared.status.Status.{Status}
 use Rattle.ad_run.specs.declared.status.Status.TheVariants.{ReadFault, WriteFault}
-use Rattle.ad_run.specs.Command.{IsCommand, of_module, of_script}
-
--- the words are those of some module
-pub record IsSomeModule (words : List (List ℕ)) : Type 0 where
-  pub kind : Kind
-  pub seed : List Entity
-  pub commanded : IsCommand words (of_module kind seed)
-
--- the words are those of a session
-pub record IsSomeScript (words : List (List ℕ)) : Type 0 where
-  pub workers : Option ℕ
-  pub commanded : IsCommand words (of_script workers)
-
-abbrev pub IsNoModule : List (List ℕ) → Type 0
-IsNoModule words = (kind : Kind) (seed : List Entity) → IsCommand words (of_module kind seed) → ⊥
-
-abbrev pub IsNoScript : List (List ℕ) → Type 0
-IsNoScript words = (workers : Option ℕ) → IsCommand words (of_script workers) → ⊥
 
 -- the exit status of a session whose input ends so, where nothing fails
 abbrev pub code_at : Ending → ℕ

@@ -1,5 +1,7 @@
 -- The exit statuses.
 use Rattle.std.specs.Prelude.{◌≡◌, ℕ}
+use Rattle.ad_documents.specs.declared.answer.Answer.{Answer}
+use Rattle.ad_documents.specs.declared.answer.Answer.TheVariants as answers
 use Rattle.ad_session.specs.declared.ends.End.{End}
 use Rattle.ad_session.specs.declared.ends.End.TheVariants as ends
 use Rattle.ad_run.specs.declared.status.Status.{Status}
@@ -15,6 +17,13 @@ code_of Spent = 3
 code_of ReadFault = 4
 code_of WriteFault = 5
 code_of Memory = 6
+
+-- the status of a command on a document that was answered so
+abbrev pub answer_status : Answer → Status
+answer_status answers.Written = Done
+answer_status (answers.Refused refusal) = Refused refusal
+answer_status answers.WriteFault = WriteFault
+answer_status answers.Memory = Memory
 
 -- a status that the program ends with
 abbrev pub IsStatus : ℕ → Type 0

@@ -10,10 +10,14 @@ use ad_core::Machine;
 use ad_io::{Sink, Source};
 use ad_session::{End, Work, session};
 use std::alloc::Global;
+use std::hash::RandomState;
+use std::thread::Threads;
 
 // Runs the session whose requests are on the source, over a machine of one session that begins without axioms.
 pub(crate) fn run_script<S: Source, K: Sink>(
+    rt: &(impl Threads + Sync),
     alloc: Global,
+    keys: RandomState,
     workers: u32,
     source: &mut S,
     sink: &mut K,
@@ -23,7 +27,7 @@ pub(crate) fn run_script<S: Source, K: Sink>(
     ensures cause { RunCause (flow (S.left source.old) (S.faults source.old) (K.written sink.old) (K.faults sink.old)) (flow (S.left source.new) (S.faults source.new) (K.written sink.new) (K.faults sink.new)) result }
 {
     let limits = Limits::standard();
-    let mut machine = match Machine::new(alloc, limits, 1, workers) {
+    let mut machine = match Machine::new(alloc, keys, limits, 1, workers) {
         Ok(machine) => machine,
         Err(_memory) => return Status::Memory,
     };
@@ -31,7 +35,7 @@ pub(crate) fn run_script<S: Source, K: Sink>(
         Ok(work) => work,
         Err(_memory) => return Status::Memory,
     };
-    let end = session(alloc, source, sink, &mut machine, 0, &mut work);
+    let end = session(rt, alloc, source, sink, &mut machine, 0, &mut work);
     status_of(end)
 }
 

@@ -2,8 +2,9 @@ ghost use Rattle.std.specs.Prelude.{◌≡◌, ◌∷◌, [], codes};
 ghost use Rattle.ad_io.specs.Sink.{Puts, PutCause};
 ghost use Rattle.ad_reply.specs.Replies.{cause_words, refused};
 ghost use Rattle.ad_run.specs.Notes.{note, note_of, IsNoted};
-ghost use Rattle.ad_run.specs.Statuses.{code_of};
+ghost use Rattle.ad_run.specs.Statuses.{answer_status, code_of};
 
+use ad_documents::Answer;
 use ad_io::{Sink, Wrote, put_all};
 use ad_reply::{Refusal, explain};
 
@@ -31,6 +32,18 @@ pub(crate) enum Status {
 }
 
 impl Status {
+    // The status of a command on a document that was answered so.
+    pub(crate) fn of_answer(answer: Answer) -> Status
+        ensures { result ≡ answer_status answer }
+    {
+        match answer {
+            Answer::Written => Status::Done,
+            Answer::Refused(refusal) => Status::Refused(refusal),
+            Answer::WriteFault => Status::WriteFault,
+            Answer::Memory => Status::Memory,
+        }
+    }
+
     // The exit status.
     pub(crate) fn code(self) -> u8
         ensures { result ≡ code_of self }

@@ -2,12 +2,15 @@
 ghost use Rattle.std.specs.Prelude.{◌≡◌, ◌+◌, ◌<◌, length, OnOk};
 
 use ad_base::{Limits, Memory, Word};
-use ad_edition::Edition;
+use ad_edition::{Edition, Entry};
 use ad_entity::{Entity, EntityKind};
+use ad_theory::Tally;
 use ad_tree::{Axiom, Batch, Class, Many, Noted, Op, Sign};
 use std::alloc::Global;
+use std::hash::RandomState;
 use std::process::Abort;
 use std::test::Fail;
+use std::thread::Threads;
 
 fn class(alloc: Global, name: &str) -> Result<Class, Memory> {
     Ok(Class::Named(Word::of(alloc, name)?))
@@ -67,6 +70,14 @@ fn counts(edition: &Edition) -> [u32; 3] {
     ]
 }
 
+// The slots of the edition's first two axioms.
+fn slots(edition: &Edition) -> [Option<u32>; 2] {
+    if edition.len() < 2 {
+        return [None; 2];
+    }
+    [edition.slot(0), edition.slot(1)]
+}
+
 // Whether the edition lists the declaration before the axiom.
 fn lists_both(alloc: Global, edition: &Edition) -> Result<bool, Memory> {
     let axiom = below(alloc, "u:A", "u:B")?;
@@ -74,24 +85,57 @@ fn lists_both(alloc: Global, edition: &Edition) -> Result<bool, Memory> {
     Ok(edition.len() == 2 && *edition.noted(0) == declaration && *edition.axioms()[1] == axiom)
 }
 
-fn make(rt: &impl Abort, alloc: Global) -> Result<Edition, Fail> {
-    let mut limits = Limits::standard();
-    limits.axioms = 1;
-    let none = Edition::empty(alloc, limits);
+// The edition that the batch makes of an empty one.
+fn make(
+    rt: &(impl Threads + Sync),
+    alloc: Global,
+    none: &Edition,
+    batch: &Batch,
+) -> Result<(Entry, Edition), Memory> {
+    let Ok(mut draft) = none.begin(alloc, batch) else {
+        return Err(Memory);
+    };
+    let entry = draft.take_entry(alloc, 3, 7);
+    match draft.fresh(rt, alloc, &mut Tally::new()) {
+        Ok(edition) => Ok((entry, edition)),
+        Err(Memory) => {
+            drop(entry);
+            Err(Memory)
+        }
+    }
+}
+
+fn tell(rt: &impl Abort, alloc: Global, entry: &Entry, edition: &Edition) -> Result<(), Fail> {
+    assert!(rt; entry.ticket() == 3 && entry.sequence() == 7);
+    assert!(rt; edition.number() == 1 && edition.bytes() == 62);
+    assert!(rt; edition.limits().axioms == 1);
+    assert!(rt; counts(edition) == [2, 1, 1]);
+    assert!(rt; edition.entity_count() == 2 && slots(edition) == [None, Some(0)]);
+    assert!(rt; lists_both(alloc, edition)?);
+    Ok(())
+}
+
+// Makes an edition of an empty one, and looks at what it and its entry tell.
+fn make_and_tell(
+    rt: &(impl Abort + Threads + Sync),
+    alloc: Global,
+    none: &Edition,
+) -> Result<(), Fail> {
     assert!(rt; none.is_empty() && none.bytes() == 12);
     let batch = batch(alloc)?;
-    let draft = none.begin(alloc, &batch).ok().ok_or("refused")?;
-    let (edition, entry) = draft.finish_for(3, 7);
-    assert!(rt; entry.ticket() == 3 && entry.sequence() == 7);
-    Ok(edition)
+    let (entry, edition) = make(rt, alloc, none, &batch)?;
+    let told = tell(rt, alloc, &entry, &edition);
+    drop(edition);
+    told
 }
 
 #[test]
 fn an_edition_and_its_entry(rt: HostRuntime) -> Result<(), Fail> {
-    let edition = make(&rt, rt.alloc())?;
-    assert!(rt; edition.number() == 1 && edition.bytes() == 62);
-    assert!(rt; edition.limits().axioms == 1);
-    assert!(rt; counts(&edition) == [2, 1, 1]);
-    assert!(rt; lists_both(rt.alloc(), &edition)?);
-    Ok(())
+    let keys = RandomState::new(&rt)?;
+    let mut limits = Limits::standard();
+    limits.axioms = 1;
+    let none = Edition::empty(rt.alloc(), keys, limits)?;
+    let told = make_and_tell(&rt, rt.alloc(), &none);
+    drop(none);
+    told
 }

@@ -6,6 +6,8 @@
 #[cfg(test)]
 mod commands;
 #[cfg(test)]
+mod dialogues;
+#[cfg(test)]
 mod editions;
 #[cfg(test)]
 mod limits;

@@ -1,39 +1,27 @@
 //! Sessions under limits below the standard ones.
 ghost use Rattle.ad_base.specs.Limits.{AreWithinStandard};
 
+use crate::dialogues::answers;
 use ad_base::{Limits, Memory};
 use ad_core::Machine;
-use ad_io::{SureSink, SureSource};
-use ad_session::{End, Work, session};
+use ad_session::End;
 use std::alloc::Global;
+use std::hash::RandomState;
 use std::process::Abort;
+use std::random::RandomSource;
 use std::test::Fail;
+use std::thread::Threads;
 
 const THREE: &str =
     "EDIT 75\n+SubClassOf(<u:A> <u:B>)\n+SubClassOf(<u:B> <u:C>)\n+SubClassOf(<u:C> <u:D>)\n";
 
 const EMPTY: &str = "OK 0 12\nOntology(\n)\n";
 
-// How a session of the machine over this input ends, whose replies are kept.
-fn end_of(
-    alloc: Global,
-    machine: &mut Machine,
-    input: &str,
-    sink: &mut SureSink,
-) -> Result<End, Memory> {
-    let limits = machine.limits();
-    let mut work = Work::new(alloc, &limits)?;
-    let mut source = SureSource::new(Vec::from_slice(alloc, input.as_bytes())?);
-    if machine.sessions() == 1 {
-        Ok(session(alloc, &mut source, sink, machine, 0, &mut work))
-    } else {
-        Err(Memory)
-    }
-}
-
 // Whether a session over a new machine with these limits answers the input so, and ends so.
-fn answers(
+fn answers_within(
+    rt: &(impl Threads + Sync),
     alloc: Global,
+    keys: RandomState,
     limits: Limits,
     input: &str,
     replies: &str,
@@ -41,14 +29,14 @@ fn answers(
 ) -> Result<bool, Memory>
     requires { AreWithinStandard limits }
 {
-    let mut machine = Machine::new(alloc, limits, 1, 1)?;
-    let mut sink = SureSink::new(alloc, 4096)?;
-    let found = end_of(alloc, &mut machine, input, &mut sink)?;
-    Ok(found == end && sink.bytes() == replies.as_bytes())
+    let mut machine = Machine::new(alloc, keys, limits, 1, 1)?;
+    let found = answers(rt, alloc, &mut machine, 0, input, replies, end);
+    drop(machine);
+    found
 }
 
 fn expect(
-    rt: &impl Abort,
+    rt: &(impl Abort + RandomSource + Threads + Sync),
     alloc: Global,
     limits: Limits,
     input: &str,
@@ -57,7 +45,11 @@ fn expect(
 ) -> Result<(), Fail>
     requires { AreWithinStandard limits }
 {
-    assert!(rt; answers(alloc, limits, input, replies, end)?, "{input}");
+    let keys = RandomState::new(rt)?;
+    assert!(rt;
+        answers_within(rt, alloc, keys, limits, input, replies, end)?,
+        "{input}"
+    );
     Ok(())
 }
 

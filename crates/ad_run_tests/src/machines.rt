@@ -1,42 +1,29 @@
 //! Several sessions of one machine.
+use crate::dialogues::answers;
 use crate::editions::addition;
 use ad_base::{Limits, Memory};
 use ad_core::Machine;
 use ad_edition::{Look, Receipt};
-use ad_io::{SureSink, SureSource};
-use ad_session::{End, Work, session};
+use ad_session::End;
 use ad_tree::Batch;
 use std::alloc::Global;
+use std::hash::RandomState;
 use std::process::Abort;
 use std::test::Fail;
+use std::thread::Threads;
 
 // A session's number, its input and the replies to it.
 type Dialogue = (u32, &'static str, &'static str);
 
-// How a session of the machine over this input ends, whose replies are kept.
-fn end_of(
+// Whether a session of the machine answers the input so, to its end.
+fn has(
+    rt: &(impl Threads + Sync),
     alloc: Global,
     machine: &mut Machine,
-    index: u32,
-    input: &str,
-    sink: &mut SureSink,
-) -> Result<End, Memory> {
-    let limits = machine.limits();
-    let mut work = Work::new(alloc, &limits)?;
-    let mut source = SureSource::new(Vec::from_slice(alloc, input.as_bytes())?);
-    if index < machine.sessions() {
-        Ok(session(alloc, &mut source, sink, machine, index, &mut work))
-    } else {
-        Err(Memory)
-    }
-}
-
-// Whether a session of the machine answers the input so, to its end.
-fn answers(alloc: Global, machine: &mut Machine, dialogue: Dialogue) -> Result<bool, Memory> {
+    dialogue: Dialogue,
+) -> Result<bool, Memory> {
     let (index, input, replies) = dialogue;
-    let mut sink = SureSink::new(alloc, 4096)?;
-    let found = end_of(alloc, machine, index, input, &mut sink)?;
-    Ok(found == End::Closed && sink.bytes() == replies.as_bytes())
+    answers(rt, alloc, machine, index, input, replies, End::Closed)
 }
 
 // The numbers of the newest edition and of those that two sessions have entered.
@@ -52,10 +39,11 @@ const EDIT: &str = "EDIT 25\n+SubClassOf(<u:A> <u:B>)\n";
 
 const EDITED: &str = "OK 1 37\nadded 1 already 0 removed 0 absent 0\n";
 
-// Each session sees what the other did.
-#[test]
-fn two_sessions(rt: HostRuntime) -> Result<(), Fail> {
-    let mut machine = Machine::new(rt.alloc(), Limits::standard(), 2, 1)?;
+fn see_each_other(
+    rt: &(impl Abort + Threads + Sync),
+    alloc: Global,
+    machine: &mut Machine,
+) -> Result<(), Fail> {
     let table = [
         (0, EDIT, EDITED),
         (
@@ -66,19 +54,26 @@ fn two_sessions(rt: HostRuntime) -> Result<(), Fail> {
         (0, "EXPORT\n", "OK 2 12\nOntology(\n)\n"),
     ];
     for dialogue in table {
-        assert!(rt; answers(rt.alloc(), &mut machine, dialogue)?);
+        assert!(rt; has(rt, alloc, machine, dialogue)?);
     }
     Ok(())
 }
 
-// A session stays at the edition that its last query entered, whatever edits it makes. Edits beyond the limits of the
-// machine are refused to each.
+// Each session sees what the other did.
 #[test]
-fn entered_editions(rt: HostRuntime) -> Result<(), Fail> {
-    let mut limits = Limits::standard();
-    limits.axioms = 1;
-    limits.editions = 2;
-    let mut machine = Machine::new(rt.alloc(), limits, 2, 16)?;
+fn two_sessions(rt: HostRuntime) -> Result<(), Fail> {
+    let keys = RandomState::new(&rt)?;
+    let mut machine = Machine::new(rt.alloc(), keys, Limits::standard(), 2, 1)?;
+    let seen = see_each_other(&rt, rt.alloc(), &mut machine);
+    drop(machine);
+    seen
+}
+
+fn stay_where_they_entered(
+    rt: &(impl Abort + Threads + Sync),
+    alloc: Global,
+    machine: &mut Machine,
+) -> Result<(), Fail> {
     let more = "EDIT 25\n+SubClassOf(<u:B> <u:C>)\n";
     let removal = "EDIT 25\n-SubClassOf(<u:A> <u:B>)\n";
     let removed = "OK 2 37\nadded 0 already 0 removed 1 absent 0\n";
@@ -92,11 +87,25 @@ fn entered_editions(rt: HostRuntime) -> Result<(), Fail> {
         ((1, "EXPORT\n", "OK 2 12\nOntology(\n)\n"), [2, 1, 2]),
     ];
     for (dialogue, entered) in table {
-        assert!(rt; answers(rt.alloc(), &mut machine, dialogue)?);
-        assert!(rt; numbers(&machine) == entered);
+        assert!(rt; has(rt, alloc, machine, dialogue)?);
+        assert!(rt; numbers(machine) == entered);
     }
     assert!(rt; machine.newest().bytes() == 12);
     Ok(())
+}
+
+// A session stays at the edition that its last query entered, whatever edits it makes. Edits beyond the limits of the
+// machine are refused to each.
+#[test]
+fn entered_editions(rt: HostRuntime) -> Result<(), Fail> {
+    let mut limits = Limits::standard();
+    limits.axioms = 1;
+    limits.editions = 2;
+    let keys = RandomState::new(&rt)?;
+    let mut machine = Machine::new(rt.alloc(), keys, limits, 2, 16)?;
+    let stayed = stay_where_they_entered(&rt, rt.alloc(), &mut machine);
+    drop(machine);
+    stayed
 }
 
 // The receipt of an addition that makes the first edition.
@@ -110,13 +119,14 @@ const FIRST: Receipt = Receipt {
 
 // Whether the batch of a session is accepted so.
 fn accepts(
+    rt: &(impl Threads + Sync),
     alloc: Global,
     machine: &mut Machine,
     index: u32,
     batch: &Batch,
     receipt: Receipt,
 ) -> bool {
-    index < machine.sessions() && machine.commit(alloc, index, batch) == Ok(receipt)
+    index < machine.sessions() && machine.commit(rt, alloc, index, batch) == Ok(receipt)
 }
 
 fn enter(machine: &mut Machine, index: u32) {
@@ -131,17 +141,28 @@ fn attend(machine: &mut Machine, index: u32) {
     }
 }
 
+fn enter_after_an_edit(
+    rt: &(impl Abort + Threads + Sync),
+    alloc: Global,
+    machine: &mut Machine,
+) -> Result<(), Fail> {
+    let batch = addition(alloc)?;
+    assert!(rt; accepts(rt, alloc, machine, 1, &batch, FIRST));
+    assert!(rt; numbers(machine) == [1, 0, 0]);
+    enter(machine, 0);
+    enter(machine, 0);
+    assert!(rt; numbers(machine) == [1, 1, 0]);
+    Ok(())
+}
+
 // What was committed is seen by the sessions that enter it, and entering again changes nothing.
 #[test]
 fn entering(rt: HostRuntime) -> Result<(), Fail> {
-    let mut machine = Machine::new(rt.alloc(), Limits::standard(), 2, 16)?;
-    let batch = addition(rt.alloc())?;
-    assert!(rt; accepts(rt.alloc(), &mut machine, 1, &batch, FIRST));
-    assert!(rt; numbers(&machine) == [1, 0, 0]);
-    enter(&mut machine, 0);
-    enter(&mut machine, 0);
-    assert!(rt; numbers(&machine) == [1, 1, 0]);
-    Ok(())
+    let keys = RandomState::new(&rt)?;
+    let mut machine = Machine::new(rt.alloc(), keys, Limits::standard(), 2, 16)?;
+    let entered = enter_after_an_edit(&rt, rt.alloc(), &mut machine);
+    drop(machine);
+    entered
 }
 
 // The number of the edition that the machine lends to its session.
@@ -150,15 +171,26 @@ fn lent(rt: &impl Abort, machine: &mut Machine) -> u32 {
     machine.edition().number()
 }
 
-#[test]
-fn looks(rt: HostRuntime) -> Result<(), Fail> {
-    let mut machine = Machine::new(rt.alloc(), Limits::standard(), 8, 1)?;
+fn look_after_an_edit(
+    rt: &(impl Abort + Threads + Sync),
+    alloc: Global,
+    machine: &mut Machine,
+) -> Result<(), Fail> {
     assert!(rt; machine.sessions() == 8 && machine.limits().axioms == 20_480);
-    attend(&mut machine, 7);
-    let batch = addition(rt.alloc())?;
-    assert!(rt; accepts(rt.alloc(), &mut machine, 7, &batch, FIRST));
+    attend(machine, 7);
+    let batch = addition(alloc)?;
+    assert!(rt; accepts(rt, alloc, machine, 7, &batch, FIRST));
     assert!(rt; machine.edition().number() == 0);
-    assert!(rt; lent(&rt, &mut machine) == 1);
+    assert!(rt; lent(rt, machine) == 1);
     assert!(rt; machine.edition().bytes() == 36);
     Ok(())
+}
+
+#[test]
+fn looks(rt: HostRuntime) -> Result<(), Fail> {
+    let keys = RandomState::new(&rt)?;
+    let mut machine = Machine::new(rt.alloc(), keys, Limits::standard(), 8, 1)?;
+    let looked = look_after_an_edit(&rt, rt.alloc(), &mut machine);
+    drop(machine);
+    looked
 }

@@ -1,12 +1,15 @@
 //! A session over sources and sinks that move few bytes at a call, or fail at one.
 ghost use Rattle.std.specs.Prelude.{◌<◌};
 
+use crate::dialogues::end_over;
 use ad_base::{Limits, Memory};
 use ad_core::Machine;
 use ad_io::{MemSink, MemSource};
-use ad_session::{End, Work, session};
+use ad_session::End;
 use std::alloc::Global;
+use std::hash::RandomState;
 use std::test::Fail;
+use std::thread::Threads;
 
 // An edit, a module, an edit that is none and whose line feed ends an empty line, and the whole ontology.
 const WORKED: &str =
@@ -62,16 +65,18 @@ fn sink_of(alloc: Global, given: Given) -> Result<MemSink, Memory>
 }
 
 // How the session over these ends, and how many edits were made.
-fn end_of(alloc: Global, source: &mut MemSource, sink: &mut MemSink) -> Result<(End, u32), Memory> {
-    let limits = Limits::standard();
-    let mut machine = Machine::new(alloc, limits, 1, 1)?;
-    let mut work = Work::new(alloc, &limits)?;
-    let end = if machine.sessions() == 1 {
-        session(alloc, source, sink, &mut machine, 0, &mut work)
-    } else {
-        End::Spent
-    };
-    Ok((end, machine.newest().number()))
+fn end_of(
+    rt: &(impl Threads + Sync),
+    alloc: Global,
+    keys: RandomState,
+    source: &mut MemSource,
+    sink: &mut MemSink,
+) -> Result<(End, u32), Memory> {
+    let mut machine = Machine::new(alloc, keys, Limits::standard(), 1, 1)?;
+    let end = end_over(rt, alloc, &mut machine, 0, source, sink);
+    let edits = machine.newest().number();
+    drop(machine);
+    Ok((end?, edits))
 }
 
 // Whether a front of the worked replies of this length was written, and no more.
@@ -79,17 +84,24 @@ fn has_written(sink: &MemSink, count: usize) -> bool {
     sink.bytes().len() == count && WORKED_REPLIES.as_bytes().starts_with(sink.bytes())
 }
 
-fn comes_to(alloc: Global, given: Given, wanted: Wanted) -> Result<bool, Memory>
+fn comes_to(
+    rt: &(impl Threads + Sync),
+    alloc: Global,
+    keys: RandomState,
+    given: Given,
+    wanted: Wanted,
+) -> Result<bool, Memory>
     requires { 0 < given.piece }
 {
     let mut source = source_of(alloc, given)?;
     let mut sink = sink_of(alloc, given)?;
-    let (end, edits) = end_of(alloc, &mut source, &mut sink)?;
+    let (end, edits) = end_of(rt, alloc, keys, &mut source, &mut sink)?;
     Ok(end == wanted.end && edits == wanted.edits && has_written(&sink, wanted.written))
 }
 
 #[test]
 fn pieces(rt: HostRuntime) -> Result<(), Fail> {
+    let keys = RandomState::new(&rt)?;
     let wanted = Wanted {
         end: End::Closed,
         written: WORKED_REPLIES.len(),
@@ -101,7 +113,7 @@ fn pieces(rt: HostRuntime) -> Result<(), Fail> {
             read: NEVER,
             write: NEVER,
         };
-        assert!(rt; comes_to(rt.alloc(), given, wanted)?);
+        assert!(rt; comes_to(&rt, rt.alloc(), keys, given, wanted)?);
     }
     Ok(())
 }
@@ -109,6 +121,7 @@ fn pieces(rt: HostRuntime) -> Result<(), Fail> {
 // A source that gives one byte a call, and fails at a call, has given as many bytes as calls before it.
 #[test]
 fn failing_sources(rt: HostRuntime) -> Result<(), Fail> {
+    let keys = RandomState::new(&rt)?;
     for call in 0..=WORKED.len() {
         let written = replies_to(call);
         let given = Given {
@@ -121,7 +134,7 @@ fn failing_sources(rt: HostRuntime) -> Result<(), Fail> {
             written,
             edits: if written == 0 { 0 } else { 1 },
         };
-        assert!(rt; comes_to(rt.alloc(), given, wanted)?);
+        assert!(rt; comes_to(&rt, rt.alloc(), keys, given, wanted)?);
     }
     Ok(())
 }
@@ -130,6 +143,7 @@ fn failing_sources(rt: HostRuntime) -> Result<(), Fail> {
 // before its reply is written.
 #[test]
 fn failing_sinks(rt: HostRuntime) -> Result<(), Fail> {
+    let keys = RandomState::new(&rt)?;
     for call in 0..WORKED_REPLIES.len() {
         let given = Given {
             piece: 1,
@@ -141,7 +155,7 @@ fn failing_sinks(rt: HostRuntime) -> Result<(), Fail> {
             written: call,
             edits: 1,
         };
-        assert!(rt; comes_to(rt.alloc(), given, wanted)?);
+        assert!(rt; comes_to(&rt, rt.alloc(), keys, given, wanted)?);
     }
     Ok(())
 }

@@ -1,11 +1,11 @@
 -- What can be answered is answered.
-use Rattle.std.proofs.Common.{◌≡◌, inl, inr, ◌+◌, List, [], ◌∷◌, ◌++◌, Option, None, Some, length, sym, ◌∙◌, ap, subst}
+use Rattle.std.proofs.Common.{◌≡◌, inl, inr, ◌+◌, List, Option, None, Some, length, sym, ◌∙◌, ap, subst}
 use Rattle.ad_base.specs.declared.limits.Kind.TheVariants as kinds
 use Rattle.ad_request.specs.declared.request.Request.{Request}
 use Rattle.ad_request.specs.declared.request.Request.TheVariants.{Edit, Module, Export}
 use Rattle.ad_tree.specs.declared.edits.Op.{Op}
 use Rattle.ad_entity.specs.declared.entities.Entity.{Entity}
-use Rattle.ad_edition.specs.Apply.{applied, counts_of}
+use Rattle.ad_apply.specs.Apply.{applied, counts_of}
 use Rattle.ad_edition.specs.Log.{replay}
 use Rattle.ad_edition.specs.Limit.{Passed, passed}
 use Rattle.ad_edition.specs.State.{after_commit}
@@ -35,7 +35,6 @@ lines_refused old new i reply (machines.unasked a is same) none = (is, same)
 lines_refused old new i reply (machines.unread r other a known unread is same) none = absurd (not_both i.asked r none a)
 lines_refused old new i reply (machines.queried r body a is eq same) none = absurd (not_both i.asked r none a)
 lines_refused old new i reply (machines.wanting r a takes is same) none = absurd (not_both i.asked r none a)
-lines_refused old new i reply (machines.unmade r a spelled takes is same) none = absurd (not_both i.asked r none a)
 lines_refused old new i reply (machines.accepted r ops a spelled free eq pushed) none = absurd (not_both i.asked r none a)
 lines_refused old new i reply (machines.limited_edit r ops which count a spelled passes eq same) none = absurd (not_both i.asked r none a)
 
@@ -44,7 +43,6 @@ export_answered old new i reply (machines.unasked a is same) asked = absurd (not
 export_answered old new i reply (machines.unread r other a known unread is same) asked = absurd (subst (λ (x : Request). IsUnread old.limits.depth x i.payload other) (same_asked i.asked r Export a asked) unread)
 export_answered old new i reply (machines.queried r body a is eq same) asked = (eq ∙ ap (answered (length old.log)) (subst (λ (x : Request). IsBody old.limits.depth x i.payload (replay old.log) body) (same_asked i.asked r Export a asked) is), same)
 export_answered old new i reply (machines.wanting r a takes is same) asked = absurd (subst TakesMemory (same_asked i.asked r Export a asked) takes)
-export_answered old new i reply (machines.unmade r a spelled takes is same) asked = absurd (subst TakesMemory (same_asked i.asked r Export a asked) takes)
 export_answered old new i reply (machines.accepted r ops a spelled free eq pushed) asked = absurd (subst (λ (x : Request). SpellsBatch old.limits.depth x i.payload ops) (same_asked i.asked r Export a asked) spelled)
 export_answered old new i reply (machines.limited_edit r ops which count a spelled passes eq same) asked = absurd (subst (λ (x : Request). SpellsBatch old.limits.depth x i.payload ops) (same_asked i.asked r Export a asked) spelled)
 
@@ -64,7 +62,6 @@ module_answered once n old new i reply seed (machines.queried r body a is eq sam
     let spelled = subst (λ (x : Request). IsBody old.limits.depth x i.payload (replay old.log) body) (same_asked i.asked r (Module kinds.Bottom n) a asked) is in
     inr (record { body = body; is = subst (λ (s : List Entity). IsModuleDocument kinds.Bottom s (replay old.log) body) (once.one old.limits.depth i.payload spelled.seed seed spelled.spelled spells) spelled.is; answers = eq })
 module_answered once n old new i reply seed (machines.wanting r a takes is same) asked spells = inl is
-module_answered once n old new i reply seed (machines.unmade r a spelled takes is same) asked spells = inl is
 module_answered once n old new i reply seed (machines.accepted r ops a spelled free eq pushed) asked spells = absurd (subst (λ (x : Request). SpellsBatch old.limits.depth x i.payload ops) (same_asked i.asked r (Module kinds.Bottom n) a asked) spelled)
 module_answered once n old new i reply seed (machines.limited_edit r ops which count a spelled passes eq same) asked spells = absurd (subst (λ (x : Request). SpellsBatch old.limits.depth x i.payload ops) (same_asked i.asked r (Module kinds.Bottom n) a asked) spelled)
 
@@ -73,7 +70,6 @@ edit_made once n old new i reply ops (machines.unasked a is same) asked spells f
 edit_made once n old new i reply ops (machines.unread r other a known unread is same) asked spells free = absurd (known (once.fine old.limits.depth i.payload ops other spells (subst (λ (x : Request). IsUnread old.limits.depth x i.payload other) (same_asked i.asked r (Edit n) a asked) unread)))
 edit_made once n old new i reply ops (machines.queried r body a is eq same) asked spells free = absurd (subst (λ (x : Request). IsBody old.limits.depth x i.payload (replay old.log) body) (same_asked i.asked r (Edit n) a asked) is)
 edit_made once n old new i reply ops (machines.wanting r a takes is same) asked spells free = inl is
-edit_made once n old new i reply ops (machines.unmade r a spelled takes is same) asked spells free = inl is
 edit_made once n old new i reply ops (machines.accepted r others a spelled free' eq pushed) asked spells free =
     let e = once.one old.limits.depth i.payload others ops (subst (λ (x : Request). SpellsBatch old.limits.depth x i.payload others) (same_asked i.asked r (Edit n) a asked) spelled) spells in
     inr (eq ∙ ap (λ (o : List Op). answered (length old.log + 1) (counts_body (counts_of (replay old.log) o))) e, pushed ∙ ap (λ (o : List Op). after_commit old old.session o) e)
@@ -87,7 +83,6 @@ edit_refused once n old new i reply ops over (machines.unasked a is same) asked 
 edit_refused once n old new i reply ops over (machines.unread r other a known unread is same) asked spells passed_it = absurd (known (once.fine old.limits.depth i.payload ops other spells (subst (λ (x : Request). IsUnread old.limits.depth x i.payload other) (same_asked i.asked r (Edit n) a asked) unread)))
 edit_refused once n old new i reply ops over (machines.queried r body a is eq same) asked spells passed_it = absurd (subst (λ (x : Request). IsBody old.limits.depth x i.payload (replay old.log) body) (same_asked i.asked r (Edit n) a asked) is)
 edit_refused once n old new i reply ops over (machines.wanting r a takes is same) asked spells passed_it = inl is
-edit_refused once n old new i reply ops over (machines.unmade r a spelled takes is same) asked spells passed_it = inl is
 edit_refused once n old new i reply ops over (machines.accepted r others a spelled free eq pushed) asked spells passed_it =
     let e = once.one old.limits.depth i.payload others ops (subst (λ (x : Request). SpellsBatch old.limits.depth x i.payload others) (same_asked i.asked r (Edit n) a asked) spelled) spells in
     let none = sym (ap (λ (o : List Op). passed old.limits (length old.log) (applied (replay old.log) o)) e) ∙ free in
@@ -109,7 +104,6 @@ text_refused seeds edits once n old new i reply cause (machines.queried r body a
   | inr h ↦ (let spelled = subst (λ (x : Request). IsBody old.limits.depth x i.payload (replay old.log) body) (same_asked i.asked r (Module kinds.Bottom n) a h.0) is in absurd (real (seeds.fine old.limits.depth i.payload spelled.seed cause spelled.spelled h.1)))
 ]
 text_refused seeds edits once n old new i reply cause (machines.wanting r a takes is same) real which = inl is
-text_refused seeds edits once n old new i reply cause (machines.unmade r a spelled takes is same) real which = inl is
 text_refused seeds edits once n old new i reply cause (machines.accepted r ops a spelled free eq pushed) real which = elim which [
   | inl h ↦ absurd (real (edits.fine old.limits.depth i.payload ops cause (subst (λ (x : Request). SpellsBatch old.limits.depth x i.payload ops) (same_asked i.asked r (Edit n) a h.0) spelled) h.1))
   | inr h ↦ absurd (subst (λ (x : Request). SpellsBatch old.limits.depth x i.payload ops) (same_asked i.asked r (Module kinds.Bottom n) a h.0) spelled)

@@ -29,7 +29,6 @@ says_lapses depth footing old new i reply (says.unasked asked is seen) = omega (
 says_lapses depth footing old new i reply (says.unread r cause asked known unread is seen) = omega (arith, ap (λ (s : Sight). s.lapses) seen)
 says_lapses depth footing old new i reply (says.queried r body asked looks is eq) = omega (arith, looks.lapses)
 says_lapses depth footing old new i reply (says.wanting r asked takes is seen) = omega (arith, ap (λ (s : Sight). s.lapses) seen)
-says_lapses depth footing old new i reply (says.unmade r asked query takes looks is) = omega (arith, looks.lapses)
 says_lapses depth footing old new i reply (says.lapsed r asked query enters rose is) = enters.lapses
 says_lapses depth footing old new i reply (says.barred r asked query seen rose later is) = later
 
@@ -56,7 +55,6 @@ says_machine machine old new i reply (says.unread r cause asked known unread is 
 says_machine machine old new i reply (says.queried r body asked looks is eq) sure =
     machines.queried r body asked (subst (λ (log : List Logged). IsBody machine.limits.depth r i.payload (replay log) body) looks.reaches is) (eq ∙ ap (λ (log : List Logged). answered (length log) body) looks.reaches) (looked_at machine old new looks)
 says_machine machine old new i reply (says.wanting r asked takes is seen) sure = machines.wanting r asked takes is (ap (λ (s : Sight). machine_at machine s) seen)
-says_machine machine old new i reply (says.unmade r asked query takes looks is) sure = machines.unmade r asked query takes is (looked_at machine old new looks)
 says_machine machine old new i reply (says.lapsed r asked query enters rose is) sure = absurd (omega (arith, rose, sure))
 says_machine machine old new i reply (says.barred r asked query seen rose later is) sure = absurd (omega (arith, rose, sure))
 

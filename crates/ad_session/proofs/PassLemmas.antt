@@ -1,13 +1,13 @@
 -- The run of a session of a machine is a run of a session, and what it has entered grows.
-use Rattle.std.proofs.Common.{◌≡◌, inl, inr, ℕ, ◌+◌, ◌<◌, ◌≤◌, List, [], ◌∷◌, ◌++◌, length, take, drop, get_or, set, refl, sym, ◌∙◌, ap, subst, arith, append_assoc}
+use Rattle.std.proofs.Common.{◌≡◌, inl, inr, ◌+◌, List, [], ◌∷◌, ◌++◌, length, get_or, set, refl, sym, ◌∙◌, ap, subst, arith, append_assoc}
 use Rattle.std.proofs.lemmas.Bool.{cases_eq}
-use Rattle.std.proofs.lemmas.List.{append-nil, take-append-drop, take-append-le, length_push, length-set, set-set, get_or-set_same, get_or-set_other}
+use Rattle.std.proofs.lemmas.List.{append-nil, take-append-le, length_push, length-set, set-set, get_or-set_same, get_or-set_other}
 use Rattle.std.specs.List.{AllByRecursion}
 use Rattle.ad_base.specs.declared.limits.Limits.{Limits}
 use Rattle.ad_items.specs.Items.{Item}
 use Rattle.ad_tree.specs.declared.edits.Op.{Op}
 use Rattle.ad_edition.specs.Log.{Logged, IsLog, count_of, next_entry, replay}
-use Rattle.ad_edition.specs.Sight.{Sight, IsFront, tell}
+use Rattle.ad_edition.specs.Sight.{IsFront, tell}
 use Rattle.ad_edition.specs.State.{State, IsMachine, ticket_of, entered_by, after_look, after_commit}
 use Rattle.ad_edition.proofs.LogLemmas.{count_of-append, count_of-one, GoesOn-push}
 use Rattle.ad_core.specs.Sights.{footing_of}
@@ -71,7 +71,6 @@ machine_stays old new i reply is (machines.unasked asked said same) = subst IsMa
 machine_stays old new i reply is (machines.unread r cause asked known unread said same) = subst IsMachine (sym same) is
 machine_stays old new i reply is (machines.queried r body asked answers eq same) = subst IsMachine (sym same) (machine_looks old is)
 machine_stays old new i reply is (machines.wanting r asked takes said same) = subst IsMachine (sym same) is
-machine_stays old new i reply is (machines.unmade r asked spelled takes said same) = subst IsMachine (sym same) (machine_looks old is)
 machine_stays old new i reply is (machines.accepted r ops asked spelled free eq same) = subst IsMachine (sym same) (machine_commits old ops is)
 machine_stays old new i reply is (machines.limited_edit r ops which count asked spelled passes eq same) = subst IsMachine (sym same) is
 
@@ -108,7 +107,6 @@ answer_keeps old new i reply (machines.unasked asked said same) = subst (Keeps o
 answer_keeps old new i reply (machines.unread r cause asked known unread said same) = subst (Keeps old) (sym same) (keeps_itself old)
 answer_keeps old new i reply (machines.queried r body asked answers eq same) = subst (Keeps old) (sym same) (keeps_looks old)
 answer_keeps old new i reply (machines.wanting r asked takes said same) = subst (Keeps old) (sym same) (keeps_itself old)
-answer_keeps old new i reply (machines.unmade r asked spelled takes said same) = subst (Keeps old) (sym same) (keeps_looks old)
 answer_keeps old new i reply (machines.accepted r ops asked spelled free eq same) = subst (Keeps old) (sym same) (keeps_commits old ops)
 answer_keeps old new i reply (machines.limited_edit r ops which count asked spelled passes eq same) = subst (Keeps old) (sym same) (keeps_itself old)
 
@@ -145,7 +143,6 @@ answer_grows old new i reply is (machines.unasked asked said same) = subst (Ente
 answer_grows old new i reply is (machines.unread r cause asked known unread said same) = subst (EnteredGrows old) (sym same) (grows_itself old)
 answer_grows old new i reply is (machines.queried r body asked answers eq same) = subst (EnteredGrows old) (sym same) (grows_looks old is)
 answer_grows old new i reply is (machines.wanting r asked takes said same) = subst (EnteredGrows old) (sym same) (grows_itself old)
-answer_grows old new i reply is (machines.unmade r asked spelled takes said same) = subst (EnteredGrows old) (sym same) (grows_looks old is)
 answer_grows old new i reply is (machines.accepted r ops asked spelled free eq same) = subst (EnteredGrows old) (sym same) (grows_commits old ops is)
 answer_grows old new i reply is (machines.limited_edit r ops which count asked spelled passes eq same) = subst (EnteredGrows old) (sym same) (grows_itself old)
 
@@ -207,8 +204,6 @@ step_as old new told i reply is fronts (machines.queried r body asked answers eq
     subst (λ (m : State). StepsAs old m told i reply) (sym same)
     (looks_as old told i reply fronts
     (says.queried r body asked (pass_looks old told is fronts) (subst (λ (log : List Logged). IsBody old.limits.depth r i.payload (replay log) body) (sym whole) answers) (eq ∙ ap (λ (log : List Logged). answered (length log) body) (sym whole))))
-step_as old new told i reply is fronts (machines.unmade r asked spelled takes said same) =
-    subst (λ (m : State). StepsAs old m told i reply) (sym same) (looks_as old told i reply fronts (says.unmade r asked spelled takes (pass_looks old told is fronts) said))
 step_as old new told i reply is fronts (machines.accepted r ops asked spelled free eq same) =
     let entry = next_entry old.log (ticket_of old.session) ops in
     let log = old.log ++ entry ∷ [] in

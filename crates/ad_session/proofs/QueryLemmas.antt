@@ -1,5 +1,5 @@
 -- What a query's reply says.
-use Rattle.std.proofs.Common.{◌≡◌, ◌≢◌, inl, inr, ℕ, List, Option, Some, Err, length, refl, ◌∙◌, ap, subst}
+use Rattle.std.proofs.Common.{◌≡◌, ◌≢◌, ℕ, List, Option, Some, Err, length, refl, ◌∙◌, ap, subst}
 use Rattle.ad_base.specs.declared.limits.Kind.TheVariants as kinds
 use Rattle.ad_base.specs.declared.limits.Limits.{Limits}
 use Rattle.ad_io.specs.Sink.{Puts}
@@ -21,7 +21,8 @@ use Rattle.ad_reply.specs.Replies.{answered, no_memory, unread_text, shut, refus
 use Rattle.ad_session.specs.Asked.{SpellsQuery, TakesMemory, IsUnread}
 use Rattle.ad_session.specs.LookAnswers as says
 use Rattle.ad_session.specs.LookAnswers.{Looks}
-use Rattle.ad_session.specs.Turns.{Speaks, PutsModuleOrRefuses, refusal_of}
+use Rattle.ad_reply.specs.Written.{PutsModule}
+use Rattle.ad_session.specs.Turns.{Speaks, refusal_of}
 
 -- the edition at hand is that of the log entered
 edition_shows : (limits : Limits) (log : List Logged) (new : Sight) (edition : Limited) → IsEditionOf limits log edition → log ≡ new.entered → edition.shown ≡ defined_by new.entered
@@ -51,23 +52,17 @@ refused_speaks depth footing failed.Shut request old new i before after w asked 
   puts = puts;
 }
 
--- a module, or want of memory for it
+-- a module
 pub module_speaks : (depth : ℕ) (footing : Footing) (n : ℕ) (seed : List Entity) (old new : Sight) (limits : Limits) (log : List Logged) (edition : Limited) (i : Item) (before after : Option (List ℕ)) (w : Wrote)
     → i.asked ≡ Some (Module kinds.Bottom n) → IsSeed depth i.payload seed → Looks footing old new → IsEditionOf limits log edition → log ≡ new.entered
-    → PutsModuleOrRefuses edition.shown seed before after w → Speaks depth footing old new i before after w
+    → PutsModule kinds.Bottom edition.shown seed before after w → Speaks depth footing old new i before after w
 module_speaks depth footing n seed old new limits log edition i before after w asked spelled looks is e puts =
-    elim (subst (λ (s : Shown). PutsModuleOrRefuses s seed before after w) (edition_shows limits log new edition is e) puts) [
-      | inl p ↦ record {
-        reply = answered (length new.entered) p.body;
-        says = says.queried (Module kinds.Bottom n) p.body asked looks (record { seed = seed; spelled = spelled; is = p.is }) refl;
-        puts = p.puts;
-      }
-      | inr p ↦ record {
-        reply = no_memory;
-        says = says.unmade (Module kinds.Bottom n) asked (seed, spelled) tt looks refl;
-        puts = p;
-      }
-    ]
+    let p = subst (λ (s : Shown). PutsModule kinds.Bottom s seed before after w) (edition_shows limits log new edition is e) puts in
+    record {
+      reply = answered (length new.entered) p.body;
+      says = says.queried (Module kinds.Bottom n) p.body asked looks (record { seed = seed; spelled = spelled; is = p.is }) refl;
+      puts = p.puts;
+    }
 
 -- a payload that is refused for a cause, which isn't want of memory
 unread_as : (depth : ℕ) (footing : Footing) (request : Request) (cause : ReadRefused) (sight : Sight) (i : Item) (before after : Option (List ℕ)) (w : Wrote)

@@ -1,5 +1,5 @@
 -- What a round does to a machine.
-use Rattle.std.proofs.Common.{◌≡◌, ◌<◌, ◌≤◌, ℕ, Option, None, Some, IfSome, Result, Ok, Err, IfOk, OnOk, IfErr, OnErr, IsOk, refl, sym, ◌∙◌, ap, subst}
+use Rattle.std.proofs.Common.{◌≡◌, ◌≤◌, ℕ, Option, None, Some, IfSome, Result, Ok, Err, IfOk, OnOk, IfErr, OnErr, IsOk, refl, sym, ◌∙◌, ap, subst}
 use Rattle.ad_base.specs.declared.limits.Limits.{Limits}
 use Rattle.ad_io.specs.Sink.{Puts, PutCause}
 use Rattle.ad_items.specs.Items.{Bounds, bounds_of, Item}

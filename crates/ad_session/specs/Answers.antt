@@ -5,7 +5,7 @@ use Rattle.ad_base.specs.declared.limits.Limits.{Limits}
 use Rattle.ad_request.specs.declared.request.Request.{Request}
 use Rattle.ad_items.specs.Items.{Item}
 use Rattle.ad_tree.specs.declared.edits.Op.{Op}
-use Rattle.ad_edition.specs.Apply.{applied, counts_of}
+use Rattle.ad_apply.specs.Apply.{applied, counts_of}
 use Rattle.ad_edition.specs.Log.{Logged, IsLog, replay}
 use Rattle.ad_edition.specs.Limit.{passed}
 use Rattle.ad_edition.specs.Sight.{Sight, Footing, tell}

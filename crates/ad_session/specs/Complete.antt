@@ -1,11 +1,11 @@
 -- What can be answered is answered, on the machine's log at that point, unless memory is wanting.
-use Rattle.std.specs.Prelude.{◌≡◌, ◌≢◌, ◌⊎◌, ℕ, ◌+◌, List, [], ◌∷◌, ◌++◌, None, Some, length}
+use Rattle.std.specs.Prelude.{◌≡◌, ◌≢◌, ◌⊎◌, ℕ, ◌+◌, List, None, Some, length}
 use Rattle.ad_base.specs.declared.limits.Kind.TheVariants as kinds
 use Rattle.ad_request.specs.declared.request.Request.TheVariants.{Edit, Module, Export}
 use Rattle.ad_items.specs.Items.{Item}
 use Rattle.ad_tree.specs.declared.edits.Op.{Op}
 use Rattle.ad_entity.specs.declared.entities.Entity.{Entity}
-use Rattle.ad_edition.specs.Apply.{applied, counts_of}
+use Rattle.ad_apply.specs.Apply.{applied, counts_of}
 use Rattle.ad_edition.specs.Log.{Logged, replay}
 use Rattle.ad_edition.specs.Limit.{Passed, passed}
 use Rattle.ad_edition.specs.State.{State, after_look, after_commit}

@@ -1,5 +1,5 @@
 -- What a session over a machine has in common with every session, and what it has entered.
-use Rattle.std.specs.Prelude.{◌≡◌, ℕ, ◌+◌, List}
+use Rattle.std.specs.Prelude.{List}
 use Rattle.std.specs.List.{AllByRecursion}
 use Rattle.ad_items.specs.Items.{Item}
 use Rattle.ad_edition.specs.Log.{Logged, count_of}

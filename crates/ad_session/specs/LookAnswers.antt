@@ -27,8 +27,6 @@ pub data LookAnswers (depth : ℕ) (footing : Footing) (old : Sight) (i : Item) 
   queried : (request : Request) (body : List ℕ) → i.asked ≡ Some request → Looks footing old new → IsBody depth request i.payload (replay new.entered) body → reply ≡ answered (length new.entered) body → LookAnswers depth footing old i reply new
   -- memory is wanting for the payload, or for what it says
   wanting : (request : Request) → i.asked ≡ Some request → TakesMemory request → reply ≡ no_memory → new ≡ old → LookAnswers depth footing old i reply new
-  -- memory is wanting for the answer of a query that was read
-  unmade : (request : Request) → i.asked ≡ Some request → SpellsQuery depth request i.payload → TakesMemory request → Looks footing old new → reply ≡ no_memory → LookAnswers depth footing old i reply new
   -- the look for a query that was read failed for want of memory
   lapsed : (request : Request) → i.asked ≡ Some request → SpellsQuery depth request i.payload → Enters old new → Rose old.lapses new.lapses → reply ≡ no_memory → LookAnswers depth footing old i reply new
   -- the look for a query that was read found the editions shut

@@ -5,7 +5,7 @@ use Rattle.ad_base.specs.declared.limits.Which.{Which}
 use Rattle.ad_request.specs.declared.request.Request.{Request}
 use Rattle.ad_items.specs.Items.{Item}
 use Rattle.ad_tree.specs.declared.edits.Op.{Op}
-use Rattle.ad_edition.specs.Apply.{applied, counts_of}
+use Rattle.ad_apply.specs.Apply.{applied, counts_of}
 use Rattle.ad_edition.specs.Log.{replay}
 use Rattle.ad_edition.specs.Limit.{passed}
 use Rattle.ad_edition.specs.State.{State, after_look, after_commit}
@@ -13,7 +13,7 @@ use Rattle.ad_read.specs.declared.texts.ReadRefused.{ReadRefused}
 use Rattle.ad_read.specs.declared.texts.ReadRefused.TheVariants.{Memory}
 use Rattle.ad_reply.specs.Replies.{Reply, answered, limited, no_request, unread_text, no_memory, counts_body}
 use Rattle.ad_reply.specs.Bodies.{IsBody}
-use Rattle.ad_session.specs.Asked.{SpellsQuery, TakesMemory, IsUnread, SpellsBatch}
+use Rattle.ad_session.specs.Asked.{TakesMemory, IsUnread, SpellsBatch}
 use Rattle.ad_session.specs.Steps.{Steps}
 
 pub data MachineAnswers (old : State) (i : Item) (reply : Reply) (new : State) : Type 0 where
@@ -25,8 +25,6 @@ pub data MachineAnswers (old : State) (i : Item) (reply : Reply) (new : State) :
   queried : (request : Request) (body : List ℕ) → i.asked ≡ Some request → IsBody old.limits.depth request i.payload (replay old.log) body → reply ≡ answered (length old.log) body → new ≡ after_look old → MachineAnswers old i reply new
   -- memory is wanting for the payload, or for what it says, or for an edit
   wanting : (request : Request) → i.asked ≡ Some request → TakesMemory request → reply ≡ no_memory → new ≡ old → MachineAnswers old i reply new
-  -- memory is wanting for the answer of a query that was read
-  unmade : (request : Request) → i.asked ≡ Some request → SpellsQuery old.limits.depth request i.payload → TakesMemory request → reply ≡ no_memory → new ≡ after_look old → MachineAnswers old i reply new
   -- an accepted edit: the log has one more entry, of the session's ticket
   accepted : (request : Request) (ops : List Op) → i.asked ≡ Some request → SpellsBatch old.limits.depth request i.payload ops
       → passed old.limits (length old.log) (applied (replay old.log) ops) ≡ None → reply ≡ answered (length old.log + 1) (counts_body (counts_of (replay old.log) ops)) → new ≡ after_commit old old.session ops → MachineAnswers old i reply new

@@ -1,5 +1,5 @@
 -- What answering one item may come to.
-use Rattle.std.specs.Prelude.{◌≡◌, ◌⊎◌, ℕ, ◌+◌, ◌-◌, ◌^◌, min, List, [], Option, None, Some, Result, Ok, Err}
+use Rattle.std.specs.Prelude.{◌≡◌, ℕ, ◌+◌, ◌-◌, ◌^◌, min, List, [], Option, None, Some, Result, Ok, Err}
 use Rattle.ad_io.specs.Flow.{Loses, Gains, GainsFront, Rose}
 use Rattle.ad_io.specs.Sink.{Puts}
 use Rattle.ad_io.specs.declared.writes.Wrote.{Wrote}
@@ -12,14 +12,10 @@ use Rattle.ad_edition.specs.declared.receipts.Receipt.{Receipt}
 use Rattle.ad_edition.specs.declared.receipts.Refused.{Refused}
 use Rattle.ad_edition.specs.declared.receipts.Refused.TheVariants as refusals
 use Rattle.ad_reply.specs.Replies.{Reply, reply_bytes, accepted, limited, no_memory}
-use Rattle.ad_base.specs.declared.limits.Kind.TheVariants as kinds
-use Rattle.ad_edition.specs.Log.{Shown}
 use Rattle.ad_edition.specs.declared.look.NoLook.{NoLook}
 use Rattle.ad_edition.specs.declared.look.NoLook.TheVariants as looks
 use Rattle.ad_reply.specs.declared.refusal.Refusal.{Refusal}
 use Rattle.ad_reply.specs.declared.refusal.Refusal.TheVariants as refused_for
-use Rattle.ad_reply.specs.Written.{PutsModule}
-use Rattle.ad_entity.specs.declared.entities.Entity.{Entity}
 use Rattle.ad_session.specs.declared.ends.End.{End}
 use Rattle.ad_session.specs.declared.ends.End.TheVariants as ends
 use Rattle.ad_session.specs.declared.turn.Turn.{Turn}
@@ -109,10 +105,6 @@ outcome_reply (Err refusals.Memory) = no_memory
 abbrev pub refusal_of : NoLook → Refusal
 refusal_of looks.Shut = refused_for.Shut
 refusal_of looks.Memory = refused_for.Memory
-
--- the reply of the edition's module for the seed was written, or the line for want of memory, or a front of it
-abbrev pub PutsModuleOrRefuses : Shown → List Entity → Option (List ℕ) → Option (List ℕ) → Wrote → Type 0
-PutsModuleOrRefuses edition seed before after written = PutsModule kinds.Bottom edition seed before after written ⊎ Puts before after written (reply_bytes no_memory)
 
 -- what a written reply, or a front of it, comes to
 abbrev pub turn_of : Wrote → Turn

@@ -14,10 +14,12 @@ use crate::work::{Talk, Work};
 use ad_core::Machine;
 use ad_io::{Sink, Source};
 use std::alloc::Global;
+use std::thread::Threads;
 
 /// One session of a machine: reads and answers requests until the input ends. Each query is answered on the newest
 /// edition, which the session then enters, and each accepted edit is one entry of the machine's log. It always returns.
 pub fn session<S: Source, K: Sink>(
+    rt: &(impl Threads + Sync),
     alloc: Global,
     source: &mut S,
     sink: &mut K,
@@ -25,7 +27,8 @@ pub fn session<S: Source, K: Sink>(
     index: u32,
     work: &mut Work,
 ) -> End
-    requires { index < length machine.old.entered }
+    requires index { index < length machine.old.entered }
+    requires work { work.old.limits ≡ machine.old.limits }
     ensures session { SessionIs MachineAnswers (bounds_of machine.old.limits) result (flow (S.left source.old) (S.faults source.old) (K.written sink.old) (K.faults sink.old)) (flow (S.left source.new) (S.faults source.new) (K.written sink.new) (K.faults sink.new)) (after_attend machine.old index) machine.new }
     ensures entered { IsFront (entered_by machine.old index) (entered_by machine.new index) }
     ensures others { KeepsOthers index machine.old machine.new }
@@ -38,7 +41,7 @@ pub fn session<S: Source, K: Sink>(
     machine.attend(index);
     machine.laws();
     'rounds: loop {
-        match take_round(alloc, source, sink, machine, &mut answered, work) {
+        match take_round(rt, alloc, source, sink, machine, &mut answered, work) {
             None => {}
             Some(end) => return end,
         }
@@ -47,6 +50,7 @@ pub fn session<S: Source, K: Sink>(
 
 // Answers requests up to an edit, makes it and answers it; or up to the end.
 fn take_round<S: Source, K: Sink>(
+    rt: &(impl Threads + Sync),
     alloc: Global,
     source: &mut S,
     sink: &mut K,
@@ -55,6 +59,7 @@ fn take_round<S: Source, K: Sink>(
     work: &mut Work,
 ) -> Option<End>
     requires looks { machine.old.session ≡ answered.old.chair }
+    requires work { work.old.limits ≡ machine.old.limits }
     ensures round { RoundIs MachineAnswers (bounds_of machine.old.limits) result answered.old.answered answered.new.answered (flow (S.left source.old) (S.faults source.old) (K.written sink.old) (K.faults sink.old)) (flow (S.left source.new) (S.faults source.new) (K.written sink.new) (K.faults sink.new)) machine.old machine.new }
     ensures chair { answered.new.chair ≡ answered.old.chair }
     ensures work { work.new.limits ≡ work.old.limits }
@@ -71,7 +76,7 @@ fn take_round<S: Source, K: Sink>(
         }
         Pause::Edit(batch) => {
             machine.laws();
-            let outcome = machine.commit(alloc, index, &batch);
+            let outcome = machine.commit(rt, alloc, index, &batch);
             answer(sink, answered, outcome)
         }
     }

@@ -23,7 +23,8 @@ pub fn talk<S: Source, K: Sink, L: Look>(
     work: &mut Work,
     limits: Limits,
 ) -> Pause
-    requires { AreWithinStandard limits }
+    requires standard { AreWithinStandard limits }
+    requires work { work.old.limits ≡ L.limits look.old }
     ensures talk { TalkIs (bounds_of limits) limits.depth (L.footing look.old) result talk.old.answered talk.new.answered (flow (S.left source.old) (S.faults source.old) (K.written sink.old) (K.faults sink.old)) (flow (S.left source.new) (S.faults source.new) (K.written sink.new) (K.faults sink.new)) (L.sight look.old) (L.sight look.new) }
     ensures chair { talk.new.chair ≡ talk.old.chair }
     ensures footing { L.footing look.new ≡ L.footing look.old }

@@ -3,12 +3,13 @@ ghost use Rattle.ad_request.specs.declared.request.Request.TheVariants as reques
 ghost use Rattle.ad_edition.specs.Sight.{Sight, Footing};
 ghost use Rattle.ad_request.specs.Requests.{IsOffered};
 ghost use Rattle.ad_items.specs.Items.{Bounds, Item, IsItem, bounds_of};
+ghost use Rattle.ad_reply.specs.Written.{AreToolsOf};
 ghost use Rattle.ad_session.specs.Flows.{flow};
 ghost use Rattle.ad_session.specs.Turns.{TurnIs, Replies, turn_of};
 
 use crate::ends::End;
 use crate::queries::{answer_export, answer_module};
-use crate::work::Work;
+use crate::work::{Tools, Work};
 use ad_base::{Kind, Limits};
 use ad_edition::Look;
 use ad_io::{Sink, Source, Wrote};
@@ -16,6 +17,7 @@ use ad_items::{Next, Payload, read_item};
 use ad_read::read_edit;
 use ad_reply::{Refusal, refuse};
 use ad_request::Request;
+use ad_theory::Extractor;
 use ad_tree::Batch;
 use std::alloc::Global;
 
@@ -38,7 +40,8 @@ pub(crate) fn take_turn<S: Source, K: Sink, L: Look>(
     work: &mut Work,
     limits: Limits,
 ) -> Turn
-    requires { limits.payload < 2 ^ 32 }
+    requires short { limits.payload < 2 ^ 32 }
+    requires work { work.old.limits ≡ L.limits look.old }
     ensures turn { TurnIs (bounds_of limits) limits.depth (L.footing look.old) result (flow (S.left source.old) (S.faults source.old) (K.written sink.old) (K.faults sink.old)) (flow (S.left source.new) (S.faults source.new) (K.written sink.new) (K.faults sink.new)) (L.sight look.old) (L.sight look.new) }
     ensures footing { L.footing look.new ≡ L.footing look.old }
     ensures limits { L.limits look.new ≡ L.limits look.old }
@@ -50,7 +53,9 @@ pub(crate) fn take_turn<S: Source, K: Sink, L: Look>(
         Next::Item(None, _payload) => turn_of(refuse(Refusal::Request, sink)),
         Next::Item(Some(_request), Payload::Dropped) => turn_of(refuse(Refusal::Memory, sink)),
         Next::Item(Some(request), Payload::Full(payload)) => {
-            reply(alloc, request, payload.as_slice(), sink, look, &limits)
+            let payload = payload.as_slice();
+            let tools = &mut work.tools;
+            reply(alloc, request, payload, sink, look, tools, &limits)
         }
         Next::Quit => Turn::Ended(End::Quit),
         Next::Closed => Turn::Ended(End::Closed),
@@ -61,26 +66,29 @@ pub(crate) fn take_turn<S: Source, K: Sink, L: Look>(
 }
 
 // Answers a request with its payload, unless it is an edit.
-fn reply<K: Sink, L: Look>(
+fn reply<K: Sink, L: Look, E: Extractor>(
     alloc: Global,
     request: Request,
     payload: &[u8],
     sink: &mut K,
     look: &mut L,
+    tools: &mut Tools<E>,
     limits: &Limits,
 ) -> Turn
     requires short { length payload.now < 2 ^ 32 }
+    requires fit { AreToolsOf (L.limits look.old) (E.made_for tools.old.bench) tools.old.room }
     requires offered { IsOffered request }
     requires goes_on { request ≢ Request.Quit }
     ensures replies { (bounds : Bounds) (i : Item) → IsItem bounds i → i.asked ≡ Some request → i.payload ≡ payload.now → Replies bounds limits.now.depth (L.footing look.old) i result (K.written sink.old) (K.written sink.new) (K.faults sink.old) (K.faults sink.new) (L.sight look.old) (L.sight look.new) }
     ensures footing { L.footing look.new ≡ L.footing look.old }
     ensures limits { L.limits look.new ≡ L.limits look.old }
+    ensures fit { AreToolsOf (L.limits look.old) (E.made_for tools.new.bench) tools.new.room }
     ensures writes { K.faults sink.old ≤ K.faults sink.new }
 {
     match request {
         Request::Edit(_) => begin_edit(alloc, payload, sink, limits),
         Request::Module(Kind::Bottom, _) => turn_of(answer_module(
-            alloc, payload, look, sink, limits,
+            alloc, payload, look, sink, tools, limits,
         )),
         Request::Export => turn_of(answer_export(look, sink)),
         // What isn't offered yet is read as no request.

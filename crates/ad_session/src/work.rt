@@ -1,7 +1,12 @@
 ghost use Rattle.std.specs.Prelude.{◌≡◌, [], IfOk};
+ghost use Rattle.ad_base.specs.Limits.{AreWithinStandard};
+ghost use Rattle.ad_reply.specs.Written.{AreToolsOf};
 
 use ad_base::{Limits, Memory};
+use ad_edition::Bench;
 use ad_items::Line;
+use ad_module_document::Room;
+use ad_theory::{Extractor, Tally};
 use std::alloc::Global;
 
 /// Counts the requests that a session has answered.
@@ -34,21 +39,50 @@ impl Talk {
     }
 }
 
-/// What a session needs while it works: the line that is read, within the limits that it was made for.
+// What finds modules, where they are found, and how much was done for them.
+#[derive(Drop)]
+pub(crate) struct Tools<E: Extractor> {
+    pub(crate) bench: E,
+    pub(crate) room: Room,
+    pub(crate) tally: Tally,
+}
+
+impl<E: Extractor> Tools<E> {
+    // Takes the memory that finding modules within these limits needs.
+    fn make(alloc: Global, limits: &Limits) -> Result<Tools<E>, Memory>
+        requires { AreWithinStandard limits.now }
+        ensures { IfOk result (λ tools. AreToolsOf limits.now (E.made_for tools.bench) tools.room) }
+    {
+        let room = Room::new(alloc, limits)?;
+        Ok(Tools {
+            bench: E::make(alloc, limits)?,
+            room,
+            tally: Tally::new(),
+        })
+    }
+}
+
+/// What a session needs while it works, within the limits that it was made for: the line that is read, and what finds
+/// modules.
 #[derive(Drop)]
 pub struct Work {
     pub(crate) line: Line,
     pub(crate) limits: Limits,
+    pub(crate) tools: Tools<Bench>,
+    ghost fit: { AreToolsOf limits (⟦<Bench as Extractor>⟧.made_for tools.bench) tools.room },
 }
 
 impl Work {
     /// No line is read yet. All the memory is taken here.
     pub fn new(alloc: Global, limits: &Limits) -> Result<Work, Memory>
+        requires { AreWithinStandard limits.now }
         ensures line { IfOk result (λ work. work.line ≡ []) }
         ensures limits { IfOk result (λ work. work.limits ≡ limits.now) }
     {
+        let line = Line::new(alloc)?;
         Ok(Work {
-            line: Line::new(alloc)?,
+            tools: Tools::make(alloc, limits)?,
+            line,
             limits: *limits,
         })
     }

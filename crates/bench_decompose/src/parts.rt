@@ -4,11 +4,9 @@ ghost use Rattle.ad_flat.specs.Universes.{most_in, symbols_in};
 
 use ad_base::{Limits, Memory};
 use ad_decompose::{Decomposition, live_slots};
-use ad_extract::Queue;
 use ad_flat::FlatUniverse;
 use ad_genuine::scratch;
 use ad_signature::Symbols;
-use ad_star::Starred;
 use ad_theory::{Tally, Universe};
 use bench_classes::put_class;
 use std::alloc::Global;
@@ -26,7 +24,7 @@ pub(crate) fn runs(
     requires symbols { symbols_in universe.now ≡ limits.now.entities }
 {
     let mut tally = Tally::new();
-    let _rows = scratch::<FlatUniverse, Starred<Queue>>(rt, alloc, universe, limits, &mut tally)?;
+    let _rows = scratch::<FlatUniverse>(rt, alloc, universe, limits, &mut tally)?;
     Ok(tally.runs())
 }
 
@@ -43,9 +41,7 @@ pub(crate) fn decomposed(
 {
     let order = live_slots(alloc, universe)?;
     let mut tally = Tally::new();
-    Decomposition::of::<FlatUniverse, Starred<Queue>>(
-        rt, alloc, universe, limits, &order, &mut tally,
-    )
+    Decomposition::of::<FlatUniverse>(rt, alloc, universe, limits, &order, &mut tally)
 }
 
 // Frees the slot, where it is live.

@@ -1,4 +1,4 @@
-//! owlad: modules of OWL 2 ontologies, on the command line.
+//! owlad: modules and atoms of OWL 2 ontologies, on the command line.
 #![tactic(auto)]
 
 use ad_base::{Memory, Word};
@@ -6,6 +6,7 @@ use ad_io::{StdSink, StdSource};
 use ad_run::{memory, run_once, usage};
 use std::alloc::Global;
 use std::env::{self, Args};
+use std::hash::RandomState;
 use std::io::{BufReader, ErrorKind};
 use std::process::ExitCode;
 
@@ -26,9 +27,22 @@ fn main(rt: HostRuntime) -> ExitCode {
     let Ok(input) = BufReader::new(alloc, rt.stdin()) else {
         return ExitCode::from(memory(&mut notes));
     };
+    // Where the system has no random keys to give, the run ends as for want of memory.
+    let Ok(keys) = RandomState::new(&rt) else {
+        return ExitCode::from(memory(&mut notes));
+    };
     let mut source = StdSource::new(input);
     let mut sink = StdSink::new(rt.stdout());
-    ExitCode::from(run_once(alloc, words.as_slice(), &mut source, &mut sink, &mut notes))
+    let code = run_once(
+        &rt,
+        alloc,
+        keys,
+        words.as_slice(),
+        &mut source,
+        &mut sink,
+        &mut notes,
+    );
+    ExitCode::from(code)
 }
 
 // The arguments behind the program's name.

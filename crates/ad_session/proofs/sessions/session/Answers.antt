@@ -28,10 +28,16 @@ rounds-init g c =
     }
 
 -- what the machine's session can't change
-pub take_round-requires : goal.take_round-requires
-take_round-requires g c =
+pub take_round-requires-clause-looks : goal.take_round-requires-clause-looks
+take_round-requires-clause-looks g c = λ κs lives.
     let so = c.rounds.invariant in
-    record { looks = run_session c.attend.new.self c.rounds.machine so.so.items so.so.replies so.so.run ∙ so.looks ∙ sym so.chair }
+    run_session c.attend.new.self c.rounds.machine so.so.items so.so.replies so.so.run ∙ so.looks ∙ sym so.chair
+
+pub take_round-requires-clause-work : goal.take_round-requires-clause-work
+take_round-requires-clause-work g c = λ κs lives.
+    let so = c.rounds.invariant in
+    let kept = run_limits c.attend.new.self c.rounds.machine so.so.items so.so.replies so.so.run in
+    so.work ∙ c.requires.work ∙ sym (ap (λ (m : State). m.limits) c.attend.ensures) ∙ sym kept
 
 pub rounds-smaller : goal.rounds-smaller
 rounds-smaller g c =

@@ -33,4 +33,4 @@ returns-in-Item-Some-Full-clause-turn g c =
     let takes = subst (λ (p : Payload). TakesItem (bounds_of c.args.limits) (g.S.Source.left c.args.source.now) (g.S.Source.left c.read_item.new.source) (Some arm.request) p) arm.field-1-is first in
     let i = item takes.line (Some arm.request) takes.bytes in
     turned (bounds_of c.args.limits) c.args.limits.depth (g.L.Look.footing c.args.look.now) i c.reply.result _ _ _ _ _ _ _ _ _ _ takes.is takes.lost
-    (c.reply.ensures.replies (bounds_of c.args.limits) i takes.is refl (sym takes.read ∙ sym c.as_slice.ensures.value))
+    (c.reply.ensures.replies (bounds_of c.args.limits) i takes.is refl (sym takes.read ∙ sym c.as_slice-payload.ensures.value))

@@ -1,0 +1,4 @@
+pub mod PlacesLemmas
+pub mod WorkingLemmas
+pub mod StepLemmas
+pub mod AppliedLemmas

@@ -1,0 +1,4 @@
+pub mod EntityLemmas
+pub mod WordLemmas
+pub mod CommandLemmas
+pub mod AskLemmas

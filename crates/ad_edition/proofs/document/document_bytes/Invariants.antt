@@ -1,8 +1,0 @@
--- The document of the axioms so far.
-use Rattle.std.proofs.Common.{◌≡◌, length, take}
-use Rattle.ad_write.specs.Canonical.{canon_document}
-use Rattle.ad_syntax_laws.specs.OntologyModule.{values}
-use Rattle.ad_edition.proofs.document.document_bytes.Given as goal
-
-abbrev pub invariant-loop-noted : goal.invariant-loop-noted
-invariant-loop-noted l = l.bytes ≡ length (canon_document (take l.noted-index (values l.axioms)))

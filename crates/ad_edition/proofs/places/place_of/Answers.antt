@@ -1,8 +1,0 @@
--- The map compares as the trees do.
-use Rattle.std.proofs.Common.{rules}
-use Rattle.ad_edition.specs.Same.{same_axiom}
-use Rattle.ad_edition.proofs.places.place_of.Goals as goal
-
-pub returns : goal.returns
-unfolding same_axiom
-returns c = search rules

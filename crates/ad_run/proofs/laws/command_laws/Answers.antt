@@ -1,5 +1,0 @@
-use Rattle.ad_run.proofs.CommandLemmas.{one_command}
-use Rattle.ad_run.proofs.laws.command_laws.Goals as goal
-
-pub returns : goal.returns
-returns c = one_command
