@@ -90,7 +90,7 @@ asking line = elim (same_text line (codes "EXPORT")) [
   | inr export ↦ elim (same_text line (codes "QUIT")) [
     | inl e ↦ record { asked = Some Quit; asks = (tt, e) }
     | inr quits ↦ elim (numbered (codes "EDIT ") line) [
-      | inl e ↦ record { asked = Some (Edit e.0); asks = (e.1, e.2) }
+      | inl e ↦ record { asked = Some (Edit e.0 None); asks = (e.1, e.2) }
       | inr edits ↦ elim (numbered (codes "MODULE bottom ") line) [
         | inl e ↦ record { asked = Some (Module kinds.Bottom e.0); asks = (e.1, e.2) }
         | inr modules ↦ record { asked = None; asks = asks_nothing line export quits edits modules }
@@ -160,7 +160,7 @@ no_line bounds n (b ∷ bytes) more unbroken short = record {
 
 quits_or_not : (r : Request) → (r ≡ Quit) ⊎ (Some r ≢ Some Quit)
 quits_or_not (Load n) = inr (λ e. cc)
-quits_or_not (Edit n) = inr (λ e. cc)
+quits_or_not (Edit n expected) = inr (λ e. cc)
 quits_or_not (Module k n) = inr (λ e. cc)
 quits_or_not (Genuine k n) = inr (λ e. cc)
 quits_or_not (Atoms k) = inr (λ e. cc)

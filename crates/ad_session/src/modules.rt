@@ -18,7 +18,7 @@ use ad_io::{Sink, Wrote};
 use ad_read::{read_axiom, read_seed};
 use ad_reply::{Refusal, genuine_reply, module_reply, refuse};
 use ad_signature::signature;
-use ad_theory::Extractor;
+use ad_theory::{Extractor, Tally};
 use ad_tree::{Noted, Seed};
 use std::alloc::Global;
 
@@ -31,6 +31,7 @@ pub(crate) fn answer_module<K: Sink, L: Look, E: Extractor>(
     sink: &mut K,
     tools: &mut Tools<E>,
     limits: &Limits,
+    tally: &mut Tally,
 ) -> Wrote
     requires short { length payload.now < 2 ^ 32 }
     requires fit { AreToolsOf (L.limits look.old) (E.made_for tools.old.bench) tools.old.room }
@@ -41,7 +42,7 @@ pub(crate) fn answer_module<K: Sink, L: Look, E: Extractor>(
     ensures fit { AreToolsOf (L.limits look.old) (E.made_for tools.new.bench) tools.new.room }
 {
     match read_seed(alloc, payload, limits) {
-        Ok(seed) => look_at_module(kind, &seed, look, sink, tools),
+        Ok(seed) => look_at_module(kind, &seed, look, sink, tools, tally),
         Err(cause) => refuse(Refusal::Text(cause), sink),
     }
 }
@@ -53,6 +54,7 @@ fn look_at_module<K: Sink, L: Look, E: Extractor>(
     look: &mut L,
     sink: &mut K,
     tools: &mut Tools<E>,
+    tally: &mut Tally,
 ) -> Wrote
     requires { AreToolsOf (L.limits look.old) (E.made_for tools.old.bench) tools.old.room }
     ensures speaks { (depth : ℕ) (i : Item) (n : ℕ) → i.asked ≡ Some (requests.Module kind n) → IsSeed depth i.payload seed.now → Speaks depth (L.footing look.old) (L.sight look.old) (L.sight look.new) i (K.written sink.old) (K.written sink.new) result }
@@ -62,7 +64,7 @@ fn look_at_module<K: Sink, L: Look, E: Extractor>(
     ensures fit { AreToolsOf (L.limits look.old) (E.made_for tools.new.bench) tools.new.room }
 {
     match look.look() {
-        Ok(()) => put_module(look.edition(), kind, seed, sink, tools),
+        Ok(()) => put_module(look.edition(), kind, seed, sink, tools, tally),
         Err(cause) => refuse(refusal_of(cause), sink),
     }
 }
@@ -74,6 +76,7 @@ fn put_module<K: Sink, E: Extractor>(
     seed: &Seed,
     sink: &mut K,
     tools: &mut Tools<E>,
+    tally: &mut Tally,
 ) -> Wrote
     requires { AreToolsOf edition.now.limits (E.made_for tools.old.bench) tools.old.room }
     ensures written { PutsModule kind edition.now.shown seed.now (K.written sink.old) (K.written sink.new) result }
@@ -87,7 +90,7 @@ fn put_module<K: Sink, E: Extractor>(
         &mut tools.bench,
         &mut tools.room,
         sink,
-        &mut tools.tally,
+        tally,
     )
 }
 
@@ -100,6 +103,7 @@ pub(crate) fn answer_genuine<K: Sink, L: Look, E: Extractor>(
     sink: &mut K,
     tools: &mut Tools<E>,
     limits: &Limits,
+    tally: &mut Tally,
 ) -> Wrote
     requires short { length payload.now < 2 ^ 32 }
     requires fit { AreToolsOf (L.limits look.old) (E.made_for tools.old.bench) tools.old.room }
@@ -110,7 +114,7 @@ pub(crate) fn answer_genuine<K: Sink, L: Look, E: Extractor>(
     ensures fit { AreToolsOf (L.limits look.old) (E.made_for tools.new.bench) tools.new.room }
 {
     match read_axiom(alloc, payload, limits) {
-        Ok(axiom) => look_for_axiom(alloc, kind, &axiom, look, sink, tools),
+        Ok(axiom) => look_for_axiom(alloc, kind, &axiom, look, sink, tools, tally),
         Err(cause) => refuse(Refusal::Text(cause), sink),
     }
 }
@@ -123,6 +127,7 @@ fn look_for_axiom<K: Sink, L: Look, E: Extractor>(
     look: &mut L,
     sink: &mut K,
     tools: &mut Tools<E>,
+    tally: &mut Tally,
 ) -> Wrote
     requires { AreToolsOf (L.limits look.old) (E.made_for tools.old.bench) tools.old.room }
     ensures speaks { (depth : ℕ) (i : Item) (n : ℕ) → i.asked ≡ Some (requests.Genuine kind n) → IsSingle depth i.payload axiom.now → Speaks depth (L.footing look.old) (L.sight look.old) (L.sight look.new) i (K.written sink.old) (K.written sink.new) result }
@@ -132,7 +137,7 @@ fn look_for_axiom<K: Sink, L: Look, E: Extractor>(
     ensures fit { AreToolsOf (L.limits look.old) (E.made_for tools.new.bench) tools.new.room }
 {
     match signature(alloc, axiom) {
-        Ok(seed) => look_at_genuine(kind, axiom, &seed, look, sink, tools),
+        Ok(seed) => look_at_genuine(kind, axiom, &seed, look, sink, tools, tally),
         Err(Memory) => refuse(Refusal::Memory, sink),
     }
 }
@@ -145,6 +150,7 @@ fn look_at_genuine<K: Sink, L: Look, E: Extractor>(
     look: &mut L,
     sink: &mut K,
     tools: &mut Tools<E>,
+    tally: &mut Tally,
 ) -> Wrote
     requires fit { AreToolsOf (L.limits look.old) (E.made_for tools.old.bench) tools.old.room }
     requires seed { (e : Entity) → has_entity seed.now e ≡ in_signature axiom.now.axiom e }
@@ -155,7 +161,7 @@ fn look_at_genuine<K: Sink, L: Look, E: Extractor>(
     ensures fit { AreToolsOf (L.limits look.old) (E.made_for tools.new.bench) tools.new.room }
 {
     match look.look() {
-        Ok(()) => put_genuine(look.edition(), kind, axiom, seed, sink, tools),
+        Ok(()) => put_genuine(look.edition(), kind, axiom, seed, sink, tools, tally),
         Err(cause) => refuse(refusal_of(cause), sink),
     }
 }
@@ -168,6 +174,7 @@ fn put_genuine<K: Sink, E: Extractor>(
     seed: &Seed,
     sink: &mut K,
     tools: &mut Tools<E>,
+    tally: &mut Tally,
 ) -> Wrote
     requires fit { AreToolsOf edition.now.limits (E.made_for tools.old.bench) tools.old.room }
     requires seed { (e : Entity) → has_entity seed.now e ≡ in_signature axiom.now.axiom e }
@@ -183,6 +190,6 @@ fn put_genuine<K: Sink, E: Extractor>(
         &mut tools.bench,
         &mut tools.room,
         sink,
-        &mut tools.tally,
+        tally,
     )
 }

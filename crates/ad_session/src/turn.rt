@@ -12,12 +12,13 @@ use crate::queries::{answer_atom, answer_atoms, answer_export, answer_stat};
 use crate::work::{Tools, Work};
 use ad_base::Limits;
 use ad_edition::Look;
+use ad_gate::{Gate, Point};
 use ad_io::{Sink, Source, Wrote};
 use ad_items::{Next, Payload, read_item};
 use ad_read::{read_document, read_edit};
 use ad_reply::{Refusal, refuse};
 use ad_request::Request;
-use ad_theory::Extractor;
+use ad_theory::{Extractor, Tally};
 use ad_tree::Batch;
 use std::alloc::Global;
 
@@ -32,13 +33,16 @@ pub(crate) enum Turn {
 }
 
 // Reads one item and answers it, unless it is an edit.
-pub(crate) fn take_turn<S: Source, K: Sink, L: Look>(
+pub(crate) fn take_turn<S: Source, K: Sink, L: Look, G: Gate>(
     alloc: Global,
     source: &mut S,
     sink: &mut K,
     look: &mut L,
     work: &mut Work,
     limits: Limits,
+    gate: &G,
+    point: Point,
+    tally: &mut Tally,
 ) -> Turn
     requires short { limits.payload < 2 ^ 32 }
     requires work { work.old.limits ≡ L.limits look.old }
@@ -49,13 +53,13 @@ pub(crate) fn take_turn<S: Source, K: Sink, L: Look>(
     ensures reads { S.faults source.old ≤ S.faults source.new }
     ensures writes { K.faults sink.old ≤ K.faults sink.new }
 {
-    match read_item(alloc, source, &mut work.line, limits) {
+    match read_item(alloc, source, &mut work.line, limits, gate, point) {
         Next::Item(None, _payload) => turn_of(refuse(Refusal::Request, sink)),
         Next::Item(Some(_request), Payload::Dropped) => turn_of(refuse(Refusal::Memory, sink)),
         Next::Item(Some(request), Payload::Full(payload)) => {
             let payload = payload.as_slice();
             let tools = &mut work.tools;
-            reply(alloc, request, payload, sink, look, tools, &limits)
+            reply(alloc, request, payload, sink, look, tools, &limits, tally)
         }
         Next::Quit => Turn::Ended(End::Quit),
         Next::Closed => Turn::Ended(End::Closed),
@@ -74,6 +78,7 @@ fn reply<K: Sink, L: Look, E: Extractor>(
     look: &mut L,
     tools: &mut Tools<E>,
     limits: &Limits,
+    tally: &mut Tally,
 ) -> Turn
     requires short { length payload.now < 2 ^ 32 }
     requires fit { AreToolsOf (L.limits look.old) (E.made_for tools.old.bench) tools.old.room }
@@ -88,10 +93,10 @@ fn reply<K: Sink, L: Look, E: Extractor>(
         Request::Load(_) => begin_load(alloc, payload, sink, limits),
         Request::Edit(_, expected) => begin_edit(alloc, payload, expected, sink, limits),
         Request::Module(kind, _) => turn_of(answer_module(
-            alloc, kind, payload, look, sink, tools, limits,
+            alloc, kind, payload, look, sink, tools, limits, tally,
         )),
         Request::Genuine(kind, _) => turn_of(answer_genuine(
-            alloc, kind, payload, look, sink, tools, limits,
+            alloc, kind, payload, look, sink, tools, limits, tally,
         )),
         Request::Atoms(kind) => turn_of(answer_atoms(kind, look, sink)),
         Request::Atom(kind, atom) => turn_of(answer_atom(kind, atom, look, sink)),
