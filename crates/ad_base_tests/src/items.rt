@@ -45,7 +45,7 @@ fn comes(alloc: Global, source: &mut MemSource, line: &mut Line, items: &[&str])
         ..Limits::standard()
     };
     for item in items {
-        if told(read_item(alloc, source, line, limits)) != *item {
+        if told(read_item(alloc, source, line, limits, &FreeGate, POINT)) != *item {
             return false;
         }
     }
@@ -92,7 +92,7 @@ fn long_line(alloc: Global, length: usize) -> Result<&'static str, Fail> {
     text.push(b'\n')?;
     let mut source = MemSource::new(text, 100, Vec::new(alloc));
     let mut line = Line::new(alloc)?;
-    Ok(told(read_item(alloc, &mut source, &mut line, Limits::standard())))
+    Ok(told(read_item(alloc, &mut source, &mut line, Limits::standard(), &FreeGate, POINT)))
 }
 
 #[test]
