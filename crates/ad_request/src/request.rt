@@ -1,4 +1,4 @@
-ghost use Rattle.std.specs.Prelude.{◌≡◌, ◌++◌, ◌<◌, ◌^◌, ℕ, List, MatchOption, codes, decimal, slice_index};
+ghost use Rattle.std.specs.Prelude.{◌≡◌, ◌++◌, ◌<◌, ◌^◌, ℕ, List, MatchOption, codes, decimal};
 ghost use Rattle.ad_base.specs.Kinds.{kind_word};
 ghost use Rattle.ad_base.specs.declared.limits.Kind.{Kind};
 ghost use Rattle.ad_request.specs.Requests.{Asks, IsSpelledShort, expected_of, payload_size};
@@ -85,7 +85,7 @@ pub fn read_request(line: &[u8]) -> Option<Request>
     if let Some(size) = number_behind(line, b"EDIT ") {
         return Some(Request::Edit(size, None));
     }
-    if let Some((size, edition)) = numbers_behind(line, b"EDIT ", b" IF ") {
+    if let Some((size, edition)) = numbers_behind(line, b"EDIT ") {
         return Some(Request::Edit(size, Some(edition)));
     }
     if let Some((kind, size)) = kind_and_number_behind(line, b"MODULE ") {
@@ -103,14 +103,13 @@ pub fn read_request(line: &[u8]) -> Option<Request>
     None
 }
 
-// The two numbers whose decimals stand behind the words, with the other words between them, and nothing else.
-fn numbers_behind(line: &[u8], words: &[u8], between: &[u8]) -> Option<(u64, u64)>
-    requires { slice_index between.now 0 ≡ 32 }
-    ensures { MatchOption result ((m n : ℕ) → IsSpelledShort m → IsSpelledShort n → line.now ≡ words.now ++ decimal m ++ between.now ++ decimal n → ⊥) (λ p. IsSpelledShort p.0 × IsSpelledShort p.1 × (line.now ≡ words.now ++ decimal p.0 ++ between.now ++ decimal p.1)) }
+// The two numbers whose decimals stand behind the words, with `IF` between them, and nothing else.
+fn numbers_behind(line: &[u8], words: &[u8]) -> Option<(u64, u64)>
+    ensures { MatchOption result ((m n : ℕ) → IsSpelledShort m → IsSpelledShort n → line.now ≡ words.now ++ decimal m ++ codes " IF " ++ decimal n → ⊥) (λ p. IsSpelledShort p.0 × IsSpelledShort p.1 × (line.now ≡ words.now ++ decimal p.0 ++ codes " IF " ++ decimal p.1)) }
 {
     let (front, back) = cut_at_space(behind(line, words)?)?;
     let first = number(front)?;
-    let second = number_behind(back, between)?;
+    let second = number_behind(back, b" IF ")?;
     Some((first, second))
 }
 
