@@ -42,14 +42,14 @@ parts_same words a a' between b b' e =
 kinded_same : (words : List ℕ) (k l : Kind) (m n : ℕ) → m < 10 ^ 10 → n < 10 ^ 10 → words ++ kind_word k ++ codes " " ++ decimal m ≡ words ++ kind_word l ++ codes " " ++ decimal n → (k ≡ l) × (m ≡ n)
 kinded_same words k l m n small other e =
     let same = cut_once (kind_word k) (kind_word l) (codes " " ++ decimal m) (codes " " ++ decimal n) (kind_spaceless k) (kind_spaceless l) refl refl
-        (parts_same words (kind_word k) (kind_word l) (codes " ") (decimal m) (decimal n) e) in
+    (parts_same words (kind_word k) (kind_word l) (codes " ") (decimal m) (decimal n) e) in
     (same_kind k l same.0, numbers_same (codes " ") m n small other same.1)
 
 -- the words and two numbers
 numbered_same : (words : List ℕ) (m n i j : ℕ) → m < 10 ^ 10 → n < 10 ^ 10 → i < 10 ^ 10 → j < 10 ^ 10 → words ++ decimal m ++ codes " IF " ++ decimal i ≡ words ++ decimal n ++ codes " IF " ++ decimal j → (m ≡ n) × (i ≡ j)
 numbered_same words m n i j hm hn hi hj e =
     let same = cut_once (decimal m) (decimal n) (codes " IF " ++ decimal i) (codes " IF " ++ decimal j) (decimal_spaceless m hm) (decimal_spaceless n hn) refl refl
-        (parts_same words (decimal m) (decimal n) (codes " IF ") (decimal i) (decimal j) e) in
+    (parts_same words (decimal m) (decimal n) (codes " IF ") (decimal i) (decimal j) e) in
     (same_number m n hm hn same.0, numbers_same (codes " IF ") i j hi hj same.1)
 
 -- one number and two are never spelled alike
