@@ -1,10 +1,17 @@
 //! The items of a session's input.
 use ad_base::{Kind, Limits};
+use ad_gate::{FreeGate, Point};
 use ad_io::MemSource;
 use ad_items::{Line, Next, Payload, read_item};
 use ad_request::Request;
 use std::alloc::Global;
 use std::test::Fail;
+
+// Where the line of each request passes the gate.
+const POINT: Point = Point::Request {
+    chair: 0,
+    number: 0,
+};
 
 // What an item is, in short: what it asks for, and its payload.
 fn told(next: Next) -> &'static str {
@@ -25,7 +32,7 @@ fn told_request(request: Option<Request>, payload: Payload) -> &'static str {
     }
     match request {
         None => "none",
-        Some(Request::Edit(_)) => "edit",
+        Some(Request::Edit(_, None)) => "edit",
         Some(Request::Module(Kind::Bottom, _)) => "module",
         Some(Request::Export) => "export",
         Some(_) => "other",

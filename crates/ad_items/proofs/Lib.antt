@@ -1,3 +1,4 @@
 pub mod Splitting
 pub mod Existing
 pub mod ReadingLemmas
+pub mod Asking
