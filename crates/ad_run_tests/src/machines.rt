@@ -126,7 +126,7 @@ fn accepts(
     batch: &Batch,
     receipt: Receipt,
 ) -> bool {
-    index < machine.sessions() && machine.commit(rt, alloc, index, batch) == Ok(receipt)
+    index < machine.sessions() && machine.commit(rt, alloc, index, batch, None) == Ok(receipt)
 }
 
 fn enter(machine: &mut Machine, index: u32) {
