@@ -35,15 +35,44 @@ pub record Asking (line : List ℕ) : Type 0 where
   pub asks : Asks line asked
 
 pub asking : (line : List ℕ) → Asking line
-asking line = elim (same_text line (codes "EXPORT")) [ inl e ↦ record { asked = Some Export; asks = (tt, e) } | inr export ↦
-  elim (same_text line (codes "STAT")) [ inl e ↦ record { asked = Some Stat; asks = (tt, e) } | inr stat ↦
-  elim (same_text line (codes "QUIT")) [ inl e ↦ record { asked = Some Quit; asks = (tt, e) } | inr quit ↦
-  elim (numbered (codes "LOAD ") line) [ inl h ↦ record { asked = Some (Load h.0); asks = (h.1, h.2) } | inr load ↦
-  elim (numbered (codes "EDIT ") line) [ inl h ↦ record { asked = Some (Edit h.0 None); asks = (h.1, h.2) } | inr edit ↦
-  elim (twice_numbered (codes "EDIT ") line) [ inl h ↦ record { asked = Some (Edit h.0 (Some h.1)); asks = ((h.2, h.3), h.4) } | inr edit_if ↦
-  elim (kind_numbered (codes "MODULE ") line) [ inl h ↦ record { asked = Some (Module h.0 h.1); asks = (h.2, h.3) } | inr of_module ↦
-  elim (kind_numbered (codes "GENUINE ") line) [ inl h ↦ record { asked = Some (Genuine h.0 h.1); asks = (h.2, h.3) } | inr genuine ↦
-  elim (kinded (codes "ATOMS ") line) [ inl h ↦ record { asked = Some (Atoms h.0); asks = (tt, h.1) } | inr atoms ↦
-  elim (kind_numbered (codes "ATOM ") line) [ inl h ↦ record { asked = Some (Atom h.0 h.1); asks = (h.2, h.3) } | inr atom ↦
-  record { asked = None; asks = asks_nothing line (record { load = load; edit = edit; edit_if = edit_if; of_module = of_module; genuine = genuine; atoms = atoms; atom = atom; export = export; stat = stat; quit = quit }) }
-  ] ] ] ] ] ] ] ] ] ]
+asking line = elim (same_text line (codes "EXPORT")) [
+  | inl e ↦ record { asked = Some Export; asks = (tt, e) }
+  | inr export ↦
+      elim (same_text line (codes "STAT")) [
+        | inl e ↦ record { asked = Some Stat; asks = (tt, e) }
+        | inr stat ↦
+            elim (same_text line (codes "QUIT")) [
+              | inl e ↦ record { asked = Some Quit; asks = (tt, e) }
+              | inr quit ↦
+                  elim (numbered (codes "LOAD ") line) [
+                    | inl h ↦ record { asked = Some (Load h.0); asks = (h.1, h.2) }
+                    | inr load ↦
+                        elim (numbered (codes "EDIT ") line) [
+                          | inl h ↦ record { asked = Some (Edit h.0 None); asks = (h.1, h.2) }
+                          | inr edit ↦
+                              elim (twice_numbered (codes "EDIT ") line) [
+                                | inl h ↦ record { asked = Some (Edit h.0 (Some h.1)); asks = ((h.2, h.3), h.4) }
+                                | inr edit_if ↦
+                                    elim (kind_numbered (codes "MODULE ") line) [
+                                      | inl h ↦ record { asked = Some (Module h.0 h.1); asks = (h.2, h.3) }
+                                      | inr of_module ↦
+                                          elim (kind_numbered (codes "GENUINE ") line) [
+                                            | inl h ↦ record { asked = Some (Genuine h.0 h.1); asks = (h.2, h.3) }
+                                            | inr genuine ↦
+                                                elim (kinded (codes "ATOMS ") line) [
+                                                  | inl h ↦ record { asked = Some (Atoms h.0); asks = (tt, h.1) }
+                                                  | inr atoms ↦
+                                                      elim (kind_numbered (codes "ATOM ") line) [
+                                                        | inl h ↦ record { asked = Some (Atom h.0 h.1); asks = (h.2, h.3) }
+                                                        | inr atom ↦
+                                                            record { asked = None; asks = asks_nothing line (record { load = load; edit = edit; edit_if = edit_if; of_module = of_module; genuine = genuine; atoms = atoms; atom = atom; export = export; stat = stat; quit = quit }) }
+                                                      ]
+                                                ]
+                                          ]
+                                    ]
+                              ]
+                        ]
+                  ]
+            ]
+      ]
+]
