@@ -32,7 +32,7 @@ fn told_request(request: Option<Request>, payload: Payload) -> &'static str {
     }
     match request {
         None => "none",
-        Some(Request::Edit(_, None)) => "edit",
+        Some(Request::Edit(_, _)) => "edit",
         Some(Request::Module(Kind::Bottom, _)) => "module",
         Some(Request::Export) => "export",
         Some(_) => "other",

@@ -1,4 +1,3 @@
 pub mod Splitting
 pub mod Existing
 pub mod ReadingLemmas
-pub mod Asking

@@ -1,5 +1,5 @@
 -- The lines of two requests differ.
-use Rattle.std.proofs.Common.{◌≡◌, ℕ, ◌^◌, ◌<◌, List, ◌++◌, Option, None, Some, codes, refl, sym, ◌∙◌, ap, subst, arith, IsTrue, not, ◌==◌, get_or}
+use Rattle.std.proofs.Common.{◌≡◌, ℕ, ◌^◌, ◌<◌, List, ◌++◌, None, Some, codes, refl, sym, ◌∙◌, ap, subst, arith, IsTrue, not, ◌==◌, get_or}
 use Rattle.std.proofs.lemmas.Bool.Decides.{nat_tests}
 use Rattle.std.specs.Fmt.{decimal}
 use Rattle.std.proofs.lemmas.Fmt.{decimal_injective}
@@ -9,7 +9,7 @@ use Rattle.ad_base.specs.declared.limits.Kind.{Kind}
 use Rattle.ad_base.specs.declared.limits.Kind.TheVariants as kinds
 use Rattle.ad_request.specs.declared.request.Request.{Request}
 use Rattle.ad_request.specs.declared.request.Request.TheVariants.{Load, Edit, Module, Genuine, Atoms, Atom, Export, Stat, Quit}
-use Rattle.ad_request.specs.Requests.{Asks, HasShortNumbers, request_line, AsksForOneThing}
+use Rattle.ad_request.specs.Requests.{HasShortNumbers, request_line, AsksForOneThing}
 use Rattle.ad_request.specs.Words.{HasNoSpace}
 use Rattle.ad_request.proofs.Cutting.{cut_once, decimal_spaceless, kind_spaceless, space_within}
 

@@ -35,3 +35,6 @@ number_cut line words rest front back e cut m n small is =
 -- something is cut there
 pub number_uncut : (line words rest : List ℕ) → line ≡ words ++ rest → HasNoSpace rest → (m n : ℕ) → line ≡ words ++ decimal m ++ codes " IF " ++ decimal n → ⊥
 number_uncut line words rest e none m n is = uncut_behind line words rest (decimal m) (codes " IF " ++ decimal n) e none refl (is ∙ in_four words (decimal m) (codes " IF ") (decimal n))
+
+pub kind_uncut : (line words rest : List ℕ) → line ≡ words ++ rest → HasNoSpace rest → (kind : Kind) (n : ℕ) → line ≡ words ++ kind_word kind ++ codes " " ++ decimal n → ⊥
+kind_uncut line words rest e none kind n is = uncut_behind line words rest (kind_word kind) (codes " " ++ decimal n) e none refl (is ∙ in_four words (kind_word kind) (codes " ") (decimal n))
