@@ -1,8 +1,10 @@
 //! Sessions of a machine that another function holds.
 use ad_base::Memory;
 use ad_core::Machine;
+use ad_gate::FreeGate;
 use ad_io::{Sink, Source, SureSink, SureSource};
 use ad_session::{End, Work, session};
+use ad_theory::Tally;
 use std::alloc::Global;
 use std::thread::Threads;
 
@@ -18,7 +20,18 @@ pub(crate) fn end_over<S: Source, K: Sink>(
     let limits = machine.limits();
     let mut work = Work::new(alloc, &limits)?;
     if index < machine.sessions() {
-        Ok(session(rt, alloc, source, sink, machine, index, &mut work))
+        let mut tally = Tally::new();
+        Ok(session(
+            rt,
+            alloc,
+            source,
+            sink,
+            machine,
+            index,
+            &mut work,
+            &FreeGate,
+            &mut tally,
+        ))
     } else {
         Err(Memory)
     }
