@@ -99,7 +99,14 @@ fn long_line(alloc: Global, length: usize) -> Result<&'static str, Fail> {
     text.push(b'\n')?;
     let mut source = MemSource::new(text, 100, Vec::new(alloc));
     let mut line = Line::new(alloc)?;
-    Ok(told(read_item(alloc, &mut source, &mut line, Limits::standard(), &FreeGate, POINT)))
+    Ok(told(read_item(
+        alloc,
+        &mut source,
+        &mut line,
+        Limits::standard(),
+        &FreeGate,
+        POINT,
+    )))
 }
 
 #[test]

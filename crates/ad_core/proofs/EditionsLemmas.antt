@@ -100,7 +100,7 @@ follow-commits machine editions session batch expected follow =
     let same : editions.newest ≡ newest_of machine = edition_is machine.limits machine.log editions.newest follow.newest_is in
     let number : editions.newest.shown.number ≡ length machine.log = ap (λ (e : Limited). e.shown.number) same in
     subst (λ n. Follow (after machine (Event.commits session batch expected)) (unless_hindered (is_moved expected n) (passed_by editions.newest batch) editions (record editions { newest = next_edition editions.newest batch })))
-        (sym number) (follow-hindered machine editions session batch (is_moved expected (length machine.log)) follow)
+    (sym number) (follow-hindered machine editions session batch (is_moved expected (length machine.log)) follow)
 
 follow-all : (machine : State) (editions : Editions) (events : List Event) → Follow machine editions → AreEnabled machine events → Follow (after_all machine events) (all_editions editions events)
 follow-all machine editions [] follow enabled = follow

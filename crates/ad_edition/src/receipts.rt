@@ -17,7 +17,9 @@ pub struct Receipt {
 /// of them, with the count that passes it; or for want of memory.
 #[derive(Clone, Copy, Debug, PartialEq, Eq, Hash)]
 pub enum Refused {
-    Moved { edition: u32 },
+    Moved {
+        edition: u32,
+    },
     Limit {
         edition: u32,
         which: Which,

@@ -46,7 +46,17 @@ pub fn session<S: Source, K: Sink, G: Gate>(
     machine.attend(index);
     machine.laws();
     'rounds: loop {
-        match take_round(rt, alloc, source, sink, machine, &mut answered, work, gate, tally) {
+        match take_round(
+            rt,
+            alloc,
+            source,
+            sink,
+            machine,
+            &mut answered,
+            work,
+            gate,
+            tally,
+        ) {
             None => {}
             Some(end) => return end,
         }
@@ -76,7 +86,9 @@ fn take_round<S: Source, K: Sink, G: Gate>(
     machine.laws();
     let limits = machine.limits();
     let index = answered.chair();
-    match talk(alloc, source, sink, machine, answered, work, limits, gate, tally) {
+    match talk(
+        alloc, source, sink, machine, answered, work, limits, gate, tally,
+    ) {
         Pause::Ended(end) => {
             machine.laws();
             Some(end)
