@@ -1,5 +1,5 @@
 -- What can be answered is answered.
-use Rattle.std.proofs.Common.{◌≡◌, ◌≢◌, inl, inr, ◌+◌, ℕ, Bool, true, false, IsTrue, IsFalse, List, Option, None, Some, length, sym, ◌∙◌, ap, subst}
+use Rattle.std.proofs.Common.{◌≡◌, ◌≢◌, inl, inr, ◌+◌, ℕ, Bool, IsTrue, IsFalse, List, Option, None, Some, length, sym, ◌∙◌, ap, subst}
 use Rattle.ad_request.specs.declared.request.Request.{Request}
 use Rattle.ad_request.specs.declared.request.Request.TheVariants.{Load, Edit, Module, Genuine, Atoms, Atom, Export, Stat, Quit}
 use Rattle.ad_request.specs.Requests.{expected_of}
@@ -35,8 +35,7 @@ some_once : (o : Option Passed) (p q : Passed) → o ≡ Some p → o ≡ Some q
 some_once o p q a b = cc
 
 not_either : (b : Bool) → IsTrue b → IsFalse b → ⊥
-not_either true t f = absurd f
-not_either false t f = absurd t
+not_either b t f = cc
 
 -- what is proved of every text: it spells one thing at most, and has then no cause to be refused
 pub record TextsOnce : Type 0 where
