@@ -4,11 +4,11 @@ ghost use Rattle.ad_base.specs.declared.limits.Kind.{Kind};
 ghost use Rattle.ad_decomposition.specs.Tables.{AreGenuine, is_in_row_of};
 ghost use Rattle.ad_entity.specs.declared.entities.Entity.{Entity};
 ghost use Rattle.ad_flat.specs.Trees.{ArePlaced};
-ghost use Rattle.ad_ontology_atoms.specs.OntologyAtoms.{AreGenuineModules, IsShapeOf};
+ghost use Rattle.ad_ontology_atoms.specs.OntologyAtoms.{AreGenuineModules, IsShapeOf, IsUnionOfAtoms};
 ghost use Rattle.ad_shapes.specs.Shapes.{Shape, shape_of};
 ghost use Rattle.ad_slots.specs.Held.{Held};
 ghost use Rattle.ad_slots.specs.Places.{is_held, held_symbols, is_held_local};
-ghost use Rattle.ad_syntax_laws.specs.OntologyModule.{logical};
+ghost use Rattle.ad_syntax_laws.specs.OntologyModule.{IsModuleOf, logical};
 ghost use Rattle.ad_tables.specs.Rows.{Tables};
 ghost use Rattle.ad_tree.specs.Same.{same_axiom};
 ghost use Rattle.ad_tree.specs.declared.axioms.Noted.{Noted};
@@ -41,4 +41,10 @@ pub fn shape_exists()
 pub fn one_shape()
     ensures { (kind : Kind) (ontology : List Noted) (one other : Shape) →
         IsShapeOf kind ontology one → IsShapeOf kind ontology other → one ≡ other }
+{}
+
+/// The module for any seed is a union of atoms.
+pub fn modules_are_unions()
+    ensures { (kind : Kind) (G : Noted → Noted → Bool) (seed : Entity → Bool) (ontology M : List Noted) →
+        AreGenuineModules kind ontology G → IsModuleOf kind seed ontology M → IsUnionOfAtoms G ontology M }
 {}
