@@ -1,5 +1,6 @@
 -- The first limit that is passed, from the counts that are above a limit or within it; and what else hinders an edit.
 use Rattle.std.proofs.Common.{◌≡◌, ℕ, ◌+◌, ◌<◌, ◌≤◌, true, false, cond, IsFalse, List, length, nat_lt, Option, None, Some, refl, ap, sym, ◌∙◌, arith, subst}
+use Rattle.std.proofs.lemmas.Bool.{false≢true}
 use Rattle.ad_base.specs.declared.limits.Which.{Which}
 use Rattle.ad_base.specs.declared.limits.Which.TheVariants as which
 use Rattle.ad_base.specs.declared.limits.Limits.{Limits}
@@ -74,5 +75,5 @@ hindered expected first number refusals.Memory unmoved refused = tt
 -- and where none is expected, the other way
 pub unhindered : (first : Option Passed) (number : ℕ) (cause : Refused) → IsHinderedBy None first number cause → IsRefusedBy first number cause
 unhindered first number (refusals.Limit edition which count) hindered = hindered.1
-unhindered first number (refusals.Moved edition) hindered = absurd hindered.1
+unhindered first number (refusals.Moved edition) hindered = absurd (false≢true hindered.1)
 unhindered first number refusals.Memory hindered = tt
