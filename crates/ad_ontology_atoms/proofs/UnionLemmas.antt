@@ -18,7 +18,7 @@ module _ {A : Type 0} (G : A → A → Bool) (order : List A) where
     own : IsTrue (G a a)
     same : IsTrue (same_module G order a first)
 
-  atom_if : A → Bool → Option ℕ
+  abbrev atom_if : A → Bool → Option ℕ
   atom_if a b = if b then position (same_module G order a) (firsts G order) else None
 
   some_none : (atom : ℕ) → None ≡ Some atom → ⊥
@@ -26,7 +26,7 @@ module _ {A : Type 0} (G : A → A → Bool) (order : List A) where
 
   in_atom : (d a : A) (atom : ℕ) → atom_of G order a ≡ Some atom → InAtom a (get_or (firsts G order) atom d)
   in_atom d a atom e = elim (either (G a a)) [
-    | inl t ↦ record { own = t; same = (position-Some (same_module G order a) (firsts G order) atom d (sym (ap (atom_if a) t) ∙ e)).1.0 }
+    | inl t ↦ record { own = t; same = (position-Some (same_module G order a) (firsts G order) atom d (sym (ap (atom_if a) t) ∙ e)).1 }
     | inr f ↦ absurd (some_none atom (sym (ap (atom_if a) f) ∙ e))
   ]
 
