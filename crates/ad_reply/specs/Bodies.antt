@@ -37,9 +37,9 @@ pub record IsSpelledModule (kind : Kind) (depth : ℕ) (payload : List ℕ) (ont
 
 -- the same for the signature of the axiom that a payload spells
 pub record IsSpelledGenuine (kind : Kind) (depth : ℕ) (payload : List ℕ) (ontology : List Noted) (body : List ℕ) : Type 0 where
-  pub axiom : Noted
-  pub spelled : IsSingle depth payload axiom
-  pub is : IsModuleText kind (in_signature axiom.axiom) ontology body
+  pub noted : Noted
+  pub spelled : IsSingle depth payload noted
+  pub is : IsModuleText kind (in_signature noted.axiom) ontology body
 
 -- the body lists the ontology's atoms of this kind
 pub record IsAtomsBody (kind : Kind) (ontology : List Noted) (body : List ℕ) : Type 0 where

@@ -33,7 +33,7 @@ PutsModule kind edition seed = PutsAnswer (IsModuleDocument kind seed edition.ax
 
 -- the same for the signature of an axiom
 abbrev pub PutsGenuine : Kind → Shown → Noted → Option (List ℕ) → Option (List ℕ) → Wrote → Type 0
-PutsGenuine kind edition axiom = PutsAnswer (IsModuleText kind (in_signature axiom.axiom) edition.axioms) edition.number
+PutsGenuine kind edition noted = PutsAnswer (IsModuleText kind (in_signature noted.axiom) edition.axioms) edition.number
 
 -- The reply has the document of the axioms of the edition's atom of this number, and it was written, or a front of it; or
 -- there are only so many atoms, and nothing was written.

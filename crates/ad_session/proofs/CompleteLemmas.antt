@@ -129,7 +129,7 @@ body_fine : TextsOnce → (depth : ℕ) (request : Request) (payload : List ℕ)
 body_fine once depth (Load n) payload cause ontology body is unread = absurd is
 body_fine once depth (Edit n expected) payload cause ontology body is unread = absurd is
 body_fine once depth (Module k n) payload cause ontology body is unread = once.seed_is_read depth payload is.seed cause is.spelled unread
-body_fine once depth (Genuine k n) payload cause ontology body is unread = once.single_is_read depth payload is.axiom cause is.spelled unread
+body_fine once depth (Genuine k n) payload cause ontology body is unread = once.single_is_read depth payload is.noted cause is.spelled unread
 body_fine once depth (Atoms k) payload cause ontology body is unread = absurd unread
 body_fine once depth (Atom k n) payload cause ontology body is unread = absurd unread
 body_fine once depth Export payload cause ontology body is unread = absurd unread

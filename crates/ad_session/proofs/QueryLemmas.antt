@@ -83,11 +83,11 @@ module_speaks depth footing kind n seed old new limits log edition i before afte
     body_speaks (IsModuleDocument kind seed) depth footing (Module kind n) old new limits log edition i before after w (λ ontology body so. record { seed = seed; spelled = spelled; is = so }) asked looks is e puts
 
 -- the module of an axiom's signature
-pub genuine_speaks : (depth : ℕ) (footing : Footing) (kind : Kind) (n : ℕ) (axiom : Noted) (old new : Sight) (limits : Limits) (log : List Logged) (edition : Limited) (i : Item) (before after : Option (List ℕ)) (w : Wrote)
-    → i.asked ≡ Some (Genuine kind n) → IsSingle depth i.payload axiom → Looks footing old new → IsEditionOf limits log edition → log ≡ new.entered
-    → PutsGenuine kind edition.shown axiom before after w → Speaks depth footing old new i before after w
-genuine_speaks depth footing kind n axiom old new limits log edition i before after w asked spelled looks is e puts =
-    body_speaks (IsModuleText kind (in_signature axiom.axiom)) depth footing (Genuine kind n) old new limits log edition i before after w (λ ontology body so. record { axiom = axiom; spelled = spelled; is = so }) asked looks is e puts
+pub genuine_speaks : (depth : ℕ) (footing : Footing) (kind : Kind) (n : ℕ) (noted : Noted) (old new : Sight) (limits : Limits) (log : List Logged) (edition : Limited) (i : Item) (before after : Option (List ℕ)) (w : Wrote)
+    → i.asked ≡ Some (Genuine kind n) → IsSingle depth i.payload noted → Looks footing old new → IsEditionOf limits log edition → log ≡ new.entered
+    → PutsGenuine kind edition.shown noted before after w → Speaks depth footing old new i before after w
+genuine_speaks depth footing kind n noted old new limits log edition i before after w asked spelled looks is e puts =
+    body_speaks (IsModuleText kind (in_signature noted.axiom)) depth footing (Genuine kind n) old new limits log edition i before after w (λ ontology body so. record { noted = noted; spelled = spelled; is = so }) asked looks is e puts
 
 -- a look that failed
 pub refused_speaks : (depth : ℕ) (footing : Footing) (cause : NoLook) (request : Request) (old new : Sight) (i : Item) (before after : Option (List ℕ)) (w : Wrote)

@@ -15,7 +15,7 @@ abbrev pub SpellsQuery : ℕ → Request → List ℕ → Type 0
 SpellsQuery depth (Load n) payload = ⊥
 SpellsQuery depth (Edit n expected) payload = ⊥
 SpellsQuery depth (Module kind n) payload = (seed : List Entity) × IsSeed depth payload seed
-SpellsQuery depth (Genuine kind n) payload = (axiom : Noted) × IsSingle depth payload axiom
+SpellsQuery depth (Genuine kind n) payload = (noted : Noted) × IsSingle depth payload noted
 SpellsQuery depth (Atoms kind) payload = Unit {0}
 SpellsQuery depth (Atom kind n) payload = Unit {0}
 SpellsQuery depth Export payload = Unit {0}

@@ -114,7 +114,7 @@ pub(crate) fn answer_genuine<K: Sink, L: Look, E: Extractor>(
     ensures fit { AreToolsOf (L.limits look.old) (E.made_for tools.new.bench) tools.new.room }
 {
     match read_axiom(alloc, payload, limits) {
-        Ok(axiom) => look_for_axiom(alloc, kind, &axiom, look, sink, tools, tally),
+        Ok(noted) => look_for_axiom(alloc, kind, &noted, look, sink, tools, tally),
         Err(cause) => refuse(Refusal::Text(cause), sink),
     }
 }
@@ -123,21 +123,21 @@ pub(crate) fn answer_genuine<K: Sink, L: Look, E: Extractor>(
 fn look_for_axiom<K: Sink, L: Look, E: Extractor>(
     alloc: Global,
     kind: Kind,
-    axiom: &Noted,
+    noted: &Noted,
     look: &mut L,
     sink: &mut K,
     tools: &mut Tools<E>,
     tally: &mut Tally,
 ) -> Wrote
     requires { AreToolsOf (L.limits look.old) (E.made_for tools.old.bench) tools.old.room }
-    ensures speaks { (depth : ℕ) (i : Item) (n : ℕ) → i.asked ≡ Some (requests.Genuine kind n) → IsSingle depth i.payload axiom.now → Speaks depth (L.footing look.old) (L.sight look.old) (L.sight look.new) i (K.written sink.old) (K.written sink.new) result }
+    ensures speaks { (depth : ℕ) (i : Item) (n : ℕ) → i.asked ≡ Some (requests.Genuine kind n) → IsSingle depth i.payload noted.now → Speaks depth (L.footing look.old) (L.sight look.old) (L.sight look.new) i (K.written sink.old) (K.written sink.new) result }
     ensures cause { PutCause (K.faults sink.old) (K.faults sink.new) result }
     ensures footing { L.footing look.new ≡ L.footing look.old }
     ensures limits { L.limits look.new ≡ L.limits look.old }
     ensures fit { AreToolsOf (L.limits look.old) (E.made_for tools.new.bench) tools.new.room }
 {
-    match signature(alloc, axiom) {
-        Ok(seed) => look_at_genuine(kind, axiom, &seed, look, sink, tools, tally),
+    match signature(alloc, noted) {
+        Ok(seed) => look_at_genuine(kind, noted, &seed, look, sink, tools, tally),
         Err(Memory) => refuse(Refusal::Memory, sink),
     }
 }
@@ -145,7 +145,7 @@ fn look_for_axiom<K: Sink, L: Look, E: Extractor>(
 // The same with the axiom's signature.
 fn look_at_genuine<K: Sink, L: Look, E: Extractor>(
     kind: Kind,
-    axiom: &Noted,
+    noted: &Noted,
     seed: &Seed,
     look: &mut L,
     sink: &mut K,
@@ -153,15 +153,15 @@ fn look_at_genuine<K: Sink, L: Look, E: Extractor>(
     tally: &mut Tally,
 ) -> Wrote
     requires fit { AreToolsOf (L.limits look.old) (E.made_for tools.old.bench) tools.old.room }
-    requires seed { (e : Entity) → has_entity seed.now e ≡ in_signature axiom.now.axiom e }
-    ensures speaks { (depth : ℕ) (i : Item) (n : ℕ) → i.asked ≡ Some (requests.Genuine kind n) → IsSingle depth i.payload axiom.now → Speaks depth (L.footing look.old) (L.sight look.old) (L.sight look.new) i (K.written sink.old) (K.written sink.new) result }
+    requires seed { (e : Entity) → has_entity seed.now e ≡ in_signature noted.now.axiom e }
+    ensures speaks { (depth : ℕ) (i : Item) (n : ℕ) → i.asked ≡ Some (requests.Genuine kind n) → IsSingle depth i.payload noted.now → Speaks depth (L.footing look.old) (L.sight look.old) (L.sight look.new) i (K.written sink.old) (K.written sink.new) result }
     ensures cause { PutCause (K.faults sink.old) (K.faults sink.new) result }
     ensures footing { L.footing look.new ≡ L.footing look.old }
     ensures limits { L.limits look.new ≡ L.limits look.old }
     ensures fit { AreToolsOf (L.limits look.old) (E.made_for tools.new.bench) tools.new.room }
 {
     match look.look() {
-        Ok(()) => put_genuine(look.edition(), kind, axiom, seed, sink, tools, tally),
+        Ok(()) => put_genuine(look.edition(), kind, noted, seed, sink, tools, tally),
         Err(cause) => refuse(refusal_of(cause), sink),
     }
 }
@@ -170,22 +170,22 @@ fn look_at_genuine<K: Sink, L: Look, E: Extractor>(
 fn put_genuine<K: Sink, E: Extractor>(
     edition: &Edition,
     kind: Kind,
-    axiom: &Noted,
+    noted: &Noted,
     seed: &Seed,
     sink: &mut K,
     tools: &mut Tools<E>,
     tally: &mut Tally,
 ) -> Wrote
     requires fit { AreToolsOf edition.now.limits (E.made_for tools.old.bench) tools.old.room }
-    requires seed { (e : Entity) → has_entity seed.now e ≡ in_signature axiom.now.axiom e }
-    ensures written { PutsGenuine kind edition.now.shown axiom.now (K.written sink.old) (K.written sink.new) result }
+    requires seed { (e : Entity) → has_entity seed.now e ≡ in_signature noted.now.axiom e }
+    ensures written { PutsGenuine kind edition.now.shown noted.now (K.written sink.old) (K.written sink.new) result }
     ensures cause { PutCause (K.faults sink.old) (K.faults sink.new) result }
     ensures fit { AreToolsOf edition.now.limits (E.made_for tools.new.bench) tools.new.room }
 {
     genuine_reply(
         edition,
         kind,
-        axiom,
+        noted,
         seed,
         &mut tools.bench,
         &mut tools.room,

@@ -9,7 +9,7 @@ use Rattle.ad_session.proofs.modules.answer_genuine.Goals as goal
 pub returns-in-Ok-clause-speaks : goal.returns-in-Ok-clause-speaks
 returns-in-Ok-clause-speaks g c i n asked payload =
     let depth = c.args.limits.now.depth in
-    c.look_for_axiom.ensures.speaks depth i n asked (subst (λ (bytes : List ℕ). IsSingle depth bytes c.in-Ok.axiom) (sym payload) c.in-Ok.ensures.read)
+    c.look_for_axiom.ensures.speaks depth i n asked (subst (λ (bytes : List ℕ). IsSingle depth bytes c.in-Ok.noted) (sym payload) c.in-Ok.ensures.read)
 
 pub returns-in-Err-clause-speaks : goal.returns-in-Err-clause-speaks
 returns-in-Err-clause-speaks g c i n asked payload =

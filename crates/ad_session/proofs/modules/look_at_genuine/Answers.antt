@@ -12,5 +12,5 @@ returns-in-Ok-clause-speaks g c depth i n asked spelled =
 
 pub returns-in-Err-clause-speaks : goal.returns-in-Err-clause-speaks
 returns-in-Err-clause-speaks g c depth i n asked spelled =
-    refused_speaks depth (g.L.Look.footing c.args.look.now) c.in-Err.cause (requests.Genuine c.args.kind n) _ _ i _ _ c.refuse.result asked (c.args.axiom.now, spelled) c.in-Err.ensures.looks
+    refused_speaks depth (g.L.Look.footing c.args.look.now) c.in-Err.cause (requests.Genuine c.args.kind n) _ _ i _ _ c.refuse.result asked (c.args.noted.now, spelled) c.in-Err.ensures.looks
     (subst (λ (r : Refusal). Puts (g.K.Sink.written c.args.sink.now) (g.K.Sink.written c.refuse.new.sink) c.refuse.result (reply_bytes (refused r))) c.refusal_of.ensures c.refuse.ensures.bytes)
