@@ -96,3 +96,7 @@ stat_is edition is law =
           ∙ ap (λ n. stat_text o (shape_in kinds.Bottom edition).tautologies (length (shape_in kinds.Bottom edition).sizes) n (length star.atoms.firsts)) (atoms_counted kinds.Top edition is)
           ∙ ap (λ n. stat_text o (shape_in kinds.Bottom edition).tautologies (length (shape_in kinds.Bottom edition).sizes) (length (shape_in kinds.Top edition).sizes) n) (atoms_counted kinds.Star edition is);
     }
+
+-- a length that isn't great isn't capped
+pub short_min : (n : ℕ) → n ≤ 600 → min n (2 ^ 64 - 1) ≡ n
+short_min n few = omega (arith, few)
