@@ -1,6 +1,6 @@
 -- The atoms of an edition are those of its ontology.
-use Rattle.std.proofs.Common.{◌≡◌, ℕ, suc, ◌≤◌, ◌<◌, ◌-◌, ◌^◌, Bool, true, false, cond, List, [], ◌∷◌, Option, None, Some, is_some, length, map, min, slice_index_or, refl, sym, ap, ◌∙◌, subst, inl, inr, arith}
-use Rattle.std.specs.List.{AllZip, Contains, IsDistinct, filter, zip}
+use Rattle.std.proofs.Common.{◌≡◌, ℕ, suc, ◌≤◌, ◌<◌, ◌^◌, true, false, cond, List, [], ◌∷◌, Option, None, Some, is_some, length, map, slice_index_or, refl, sym, ap, ◌∙◌, subst, inl, inr, arith}
+use Rattle.std.specs.List.{AllZip, IsDistinct, filter, zip}
 use Rattle.std.proofs.lemmas.List.{length-map}
 use Rattle.ad_theory.proofs.Members.{Has, contains_of_has}
 use Rattle.ad_base.specs.declared.limits.Kind.{Kind}
@@ -64,7 +64,7 @@ kept_slots atoms atom (x ∷ xs) (Some slot ∷ slots) all =
     let more = kept_slots atoms atom xs slots all.1 in
     let step : map (λ p. p.0) (filter (λ p. is_slot_of atoms atom p.1) (zip (x ∷ xs) (Some slot ∷ slots))) ≡ map (λ p. p.0) (filter (λ p. is_of_atom atom p.1) (zip (x ∷ logical xs) (at ∷ numbers))) =
     elim (is_of_atom atom at) as (λ b. map (λ p. p.0) (cond b ((x, Some slot) ∷ filter (λ p. is_slot_of atoms atom p.1) (zip xs slots)) (filter (λ p. is_slot_of atoms atom p.1) (zip xs slots)))
-        ≡ map (λ p. p.0) (cond b ((x, at) ∷ filter (λ p. is_of_atom atom p.1) (zip (logical xs) numbers)) (filter (λ p. is_of_atom atom p.1) (zip (logical xs) numbers)))) [
+    ≡ map (λ p. p.0) (cond b ((x, at) ∷ filter (λ p. is_of_atom atom p.1) (zip (logical xs) numbers)) (filter (λ p. is_of_atom atom p.1) (zip (logical xs) numbers)))) [
       | true ↦ ap (λ l. x ∷ l) more
       | false ↦ more
     ] in

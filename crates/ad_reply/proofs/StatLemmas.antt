@@ -1,11 +1,9 @@
 -- The text of an edition's counts.
-use Rattle.std.proofs.Common.{◌≡◌, ℕ, ◌+◌, ◌*◌, ◌-◌, ◌^◌, ◌<◌, ◌≤◌, List, [], ◌∷◌, ◌++◌, length, min, codes, decimal, refl, sym, ap, ◌∙◌, arith, append_assoc, length-append}
+use Rattle.std.proofs.Common.{◌≡◌, ℕ, ◌+◌, ◌-◌, ◌^◌, ◌<◌, ◌≤◌, List, [], ◌∷◌, ◌++◌, length, min, codes, decimal, ap, ◌∙◌, arith, append_assoc, length-append}
 use Rattle.std.proofs.lemmas.Fmt.{length-decimal-le}
-use Rattle.ad_base.specs.declared.limits.Kind.{Kind}
 use Rattle.ad_base.specs.declared.limits.Kind.TheVariants as kinds
 use Rattle.ad_decompose.specs.Decomposed.{atomic_of}
 use Rattle.ad_edition.specs.Edition.{Whole, IsEdition}
-use Rattle.ad_lines.specs.Lines.{behind, line_of}
 use Rattle.ad_reply.specs.Atoms.{shape_in}
 use Rattle.ad_reply.specs.Bodies.{IsStatBody, stat_text}
 use Rattle.ad_reply.specs.Stats.{atoms_line, axioms_line, stat_in, stat_lines, tautologies_line}

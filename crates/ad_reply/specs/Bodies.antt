@@ -77,7 +77,7 @@ carried_count ontology = length ontology - length (logical ontology)
 abbrev pub stat_text : List Noted → ℕ → ℕ → ℕ → ℕ → List ℕ
 stat_text ontology tautologies bottom top star =
     line_of (codes "axioms" ∷ decimal (length (logical ontology)) ∷ codes "carried" ∷ decimal (carried_count ontology)
-        ∷ codes "entities" ∷ decimal (length (entities_of (logical ontology))) ∷ codes "bytes" ∷ decimal (length (canon_document ontology)) ∷ [])
+    ∷ codes "entities" ∷ decimal (length (entities_of (logical ontology))) ∷ codes "bytes" ∷ decimal (length (canon_document ontology)) ∷ [])
     ++ line_of (codes "tautologies" ∷ decimal tautologies ∷ [])
     ++ line_of (codes "atoms" ∷ codes "bottom" ∷ decimal bottom ∷ codes "top" ∷ decimal top ∷ codes "star" ∷ decimal star ∷ [])
 

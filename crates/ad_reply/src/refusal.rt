@@ -25,9 +25,14 @@ pub enum Refusal {
         count: u64,
     },
     /// On the edition of this number there are only so many atoms.
-    Atom { edition: u32, count: u32 },
+    Atom {
+        edition: u32,
+        count: u32,
+    },
     /// The edit expects another edition than the newest, which has this number.
-    Moved { edition: u32 },
+    Moved {
+        edition: u32,
+    },
     /// Want of memory.
     Memory,
     /// The editions are shut for this session.

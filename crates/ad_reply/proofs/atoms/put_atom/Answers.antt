@@ -1,5 +1,5 @@
 -- The line, and then the document of the atom's axioms.
-use Rattle.std.proofs.Common.{◌<◌, length, refl, subst}
+use Rattle.std.proofs.Common.{subst}
 use Rattle.ad_io.specs.Flow.{GainsFront}
 use Rattle.ad_io.specs.Sink.{Puts}
 use Rattle.ad_write.specs.Canonical.{canon_document}

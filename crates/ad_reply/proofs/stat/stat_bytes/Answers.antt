@@ -1,5 +1,5 @@
 -- The text was counted, and isn't long.
-use Rattle.std.proofs.Common.{◌-◌, ◌^◌, ◌≤◌, length, min, subst, ◌∙◌, arith}
+use Rattle.std.proofs.Common.{length, subst, ◌∙◌, arith}
 use Rattle.ad_lines.specs.Pen.{Weighs}
 use Rattle.ad_reply.specs.Stats.{stat_lines}
 use Rattle.ad_reply.proofs.StatLemmas.{FitsTypes, stat_long, short_min}
