@@ -42,6 +42,9 @@ MOST_SPELLED = 9_999_999_999
 # No reply's line is longer.
 LINE_BYTES = 256
 
+# How long a process may take to end once its input has ended, before it is killed.
+SECONDS = 10
+
 NUMBER = r"(0|[1-9][0-9]{0,9})"
 
 
@@ -236,7 +239,7 @@ def edit_lines(sign, axioms):
 def numbers(pattern, text):
     """Returns the numbers of a text of this form, N for each, None if it has another one."""
     found = re.fullmatch(pattern.replace("N", NUMBER), text)
-    return found and [int(it) for it in found.groups()]
+    return [int(it) for it in found.groups()] if found else None
 
 
 def axioms_of(text):
@@ -277,12 +280,19 @@ EDITED = "added N already N removed N absent N\n"
 STAT = "axioms N carried N entities N bytes N\ntautologies N\natoms bottom N top N star N\n"
 
 
+def close(stream):
+    try:
+        stream.close()
+    except OSError:
+        pass
+
+
 class Client:
     """A session over a pair of binary streams: the replies are read from `source`, the requests written to `sink`."""
 
     def __init__(self, source, sink, process=None):
         self.source, self.sink, self.process = source, sink, process
-        self.in_step = True
+        self.in_step, self.status, self.note = True, None, None
 
     @classmethod
     def start(cls, program, workers=1):
@@ -346,33 +356,26 @@ class Client:
         self.in_step = False
         if self.process is None:
             return
-        try:
-            self.sink.close()
-        except OSError:
-            pass
+        close(self.sink)
         rest = self.source.read()
-        status, note = self.ended()
-        if status != 0:
-            raise Broken(f"the program ended with status {status}: {note}")
+        self.close()
+        if self.status != 0:
+            raise Broken(f"status {self.status} of the program, note {self.note!r}")
         if rest:
             raise ProtocolError(f"bytes behind the last reply: {rest[:80]!r}")
 
     def close(self):
         """Gives the session up, and ends the process of its own if it has one."""
         self.in_step = False
-        for stream in (self.sink, self.source):
-            try:
-                stream.close()
-            except OSError:
-                pass
+        close(self.sink)
+        close(self.source)
         if self.process is not None:
-            self.ended()
+            self.end()
 
     # Replies
 
     def edited(self, words, payload, behind=""):
-        made = lambda edition, text: (it := numbers(EDITED, text)) and Edited(edition, *it)
-        return self.parsed(words, payload, made, behind)
+        return self.parsed(words, payload, lambda edition, text: (it := numbers(EDITED, text)) and Edited(edition, *it), behind)
 
     def document(self, words, payload):
         def made(edition, text):
@@ -383,33 +386,33 @@ class Client:
 
     def parsed(self, words, payload, made, behind=""):
         """Asks a request, and returns what `made` makes of the reply's edition and text, which isn't None."""
-        if payload is not None:
-            if len(payload) > MOST_BYTES:
-                raise ValueError(f"a payload of {len(payload)} bytes ends the session")
-            words += f" {len(payload)}{behind}"
-        edition, body = self.ask(words.encode("ascii"), payload or b"")
+        edition, body = self.ask(words, payload, behind)
         try:
             value = made(edition, body.decode("utf-8"))
         except UnicodeDecodeError:
             value = None
-        if not value:
+        if value is None:
             raise self.out_of_step(ProtocolError(f"no body of {words}: {body[:80]!r}"))
         return value
 
-    def ask(self, line, payload=b""):
-        """Writes a line and its payload, and returns the edition and the body of the reply.
+    def ask(self, words, payload=None, behind=""):
+        """Asks the request of these words, with the payload if it has one and the words behind its size, and returns the
+        edition and the body of the reply, in bytes.
 
-        Where a line with a payload is no request of the program, it reads the payload as lines, so the client can't be used
-        any more.
+        A program that doesn't know a request reads its payload as lines, so the client can't be used any more after that.
         """
-        self.write(line + b"\n" + payload)
-        reply = self.read_line()
-        found = numbers("OK N N", reply)
+        if payload is not None:
+            if len(payload) > MOST_BYTES:
+                raise ValueError(f"a payload of {len(payload)} bytes would end the session")
+            words = f"{words} {len(payload)}{behind}"
+        self.write(words.encode("ascii") + b"\n" + (payload or b""))
+        line = self.read_line()
+        found = numbers("OK N N", line)
         if found:
             return found[0], self.read_bytes(found[1])
-        why = Refused.of(reply)
+        why = Refused.of(line)
         if why is None:
-            raise self.out_of_step(ProtocolError(f"no reply: {reply!r}"))
+            raise self.out_of_step(ProtocolError(f"no reply: {line[:80]!r}"))
         raise self.out_of_step(why) if why.code == Refused.LINE and payload else why
 
     def write(self, request):
@@ -422,17 +425,21 @@ class Client:
             raise self.broken("requests can't be written") from why
 
     def read_line(self):
-        line = self.source.readline(LINE_BYTES)
-        if not line.endswith(b"\n"):
-            raise self.broken("no whole line of a reply") if len(line) < LINE_BYTES else self.out_of_step(
-                ProtocolError(f"no reply: {line[:80]!r}")
-            )
-        return line[:-1].decode("ascii", "backslashreplace")
+        try:
+            line = self.source.readline(LINE_BYTES)
+        except (OSError, ValueError) as why:
+            raise self.broken("replies can't be read") from why
+        if not line.endswith(b"\n") and len(line) < LINE_BYTES:
+            raise self.broken("the replies end before a whole line")
+        return line.decode("ascii", "backslashreplace").rstrip("\n")
 
     def read_bytes(self, size):
         pieces, left = [], size
         while left > 0:
-            piece = self.source.read(left)
+            try:
+                piece = self.source.read(left)
+            except (OSError, ValueError) as why:
+                raise self.broken("replies can't be read") from why
             if not piece:
                 raise self.broken(f"a reply's last {left} bytes are missing")
             pieces.append(piece)
@@ -441,24 +448,23 @@ class Client:
 
     def broken(self, what):
         """Returns the exception of a stream that broke off, with the status and the note of a process of its own."""
-        self.in_step = False
-        if self.process is None:
-            return Broken(what)
         self.close()
-        return Broken(f"{what}: the program's status is {self.status}, its note {self.note!r}")
+        return Broken(what if self.process is None else f"{what}: status {self.status} of the program, note {self.note!r}")
 
     def out_of_step(self, why):
         self.in_step = False
         return why
 
-    def ended(self):
-        """Returns the status and the note of the process, that has no input any more."""
-        if not self.process.stderr.closed:
+    def end(self):
+        """Ends the process of its own, which has no input any more."""
+        try:
+            self.process.wait(SECONDS)
+        except subprocess.TimeoutExpired:
+            self.process.kill()
+        if self.note is None:
             self.note = self.process.stderr.read().decode("utf-8", "backslashreplace").strip()
             self.process.stderr.close()
-            self.status = self.process.wait()
-            self.source.close()
-        return self.status, self.note
+        self.status = self.process.wait()
 
 
 # The command
@@ -483,8 +489,8 @@ def words_of(arguments):
 def asked(client, words):
     """Returns the body of the reply to the request of the words."""
     if words.request == "module":
-        return client.ask_body("MODULE " + words.kind, seed_payload(words.seed))
-    return client.ask_body("ATOMS " + words.kind if words.request == "atoms" else words.request.upper(), None)
+        return client.ask("MODULE " + words.kind, seed_payload(words.seed))[1]
+    return client.ask("ATOMS " + words.kind if words.request == "atoms" else words.request.upper())[1]
 
 
 def main(arguments):
