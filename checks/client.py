@@ -7,6 +7,7 @@ usage: client.py PROGRAM [WORD]    with a word, only the checks whose name has i
 import io
 import os
 import random
+import re
 import subprocess
 import sys
 import tempfile
@@ -242,6 +243,17 @@ def refusals_and_their_attributes():
         same("no atom", (0, 0), (why.edition, why.count))
         refused(22, [6], session.module, "top", b"Class(x:A)")
         same("no edit was done", Document(0, (), "Ontology(\n)\n"), session.export())
+
+
+@check
+def dialogues_of_the_reference():
+    """The requests of docs/protocol.md, one behind another, get its replies."""
+    with open(os.path.join(HERE, "..", "docs", "protocol.md"), encoding="utf-8") as file:
+        blocks = re.findall(r"^```(request|reply)\n(.*?)^```$", file.read(), re.M | re.S)
+    same("requests and replies by turns", ["request", "reply"] * (len(blocks) // 2), [kind for kind, _ in blocks])
+    same("a dialogue for each request", True, len(blocks) >= 2 * 10)
+    requests, replies = ("".join(text for kind, text in blocks if kind == which).encode() for which in ("request", "reply"))
+    ran(requests + b"EXPORT\n", replies)
 
 
 # Limits
