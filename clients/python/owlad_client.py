@@ -353,13 +353,10 @@ class Client:
     def quit(self):
         """Ends the session in good order, and the process of its own if it has one."""
         self.write(b"QUIT\n")
-        self.in_step = False
-        if self.process is None:
-            return
         close(self.sink)
-        rest = self.source.read()
+        rest = b"" if self.process is None else self.source.read()
         self.close()
-        if self.status != 0:
+        if self.status not in (0, None):
             raise Broken(f"status {self.status} of the program, note {self.note!r}")
         if rest:
             raise ProtocolError(f"bytes behind the last reply: {rest[:80]!r}")
@@ -475,7 +472,8 @@ def words_of(arguments):
     parser = argparse.ArgumentParser(description="Loads a file into a session of owlad, and asks one request of it.")
     parser.add_argument("--program", default="owlad", help="the program, by default owlad on the path")
     asks = parser.add_subparsers(dest="request", required=True, metavar="REQUEST")
-    for name, what in (("module", "the module of a kind for a seed"), ("atoms", "the atoms of a kind"), ("stat", "counts"), ("export", "all axioms")):
+    requests = {"module": "the module of a kind for a seed", "atoms": "the atoms of a kind", "stat": "counts", "export": "all axioms"}
+    for name, what in requests.items():
         ask = asks.add_parser(name, help=what)
         ask.add_argument("--program", default=argparse.SUPPRESS, help=argparse.SUPPRESS)
         ask.add_argument("file", help="a document in functional-style syntax")
