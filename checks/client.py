@@ -25,7 +25,7 @@ from owlad_client import Atom, Atoms, Broken, Client, Document, Edited, Protocol
 SECONDS = 60
 
 # How many sessions by chance are tried, and how many edits each has.
-SESSIONS, EDITS = 40, 5
+SESSIONS, EDITS = 60, 5
 
 MOST_BYTES = 33_554_432
 
@@ -310,7 +310,7 @@ def limit_of_bytes():
 def edited(chance, ontology):
     """Returns an edit by chance, as the text of its payload, the counts, and the ontology behind it."""
     counts, behind, text = [0, 0, 0, 0], list(ontology), ""
-    for _ in range(chance.random.randint(0, 12)):
+    for _ in range(chance.random.randint(0, 20)):
         takes = chance.random.random() < 0.3
         axiom = chance.random.choice(behind) if behind and chance.random.random() < 0.4 else chance.axiom()
         there = axiom in behind
