@@ -1,7 +1,7 @@
 //! Sessions of a machine that another function holds.
 use ad_base::Memory;
 use ad_core::Machine;
-use ad_gate::FreeGate;
+use ad_gate::{FreeGate, Gate};
 use ad_io::{Sink, Source, SureSink, SureSource};
 use ad_session::{End, Work, session};
 use ad_theory::Tally;
@@ -9,13 +9,14 @@ use std::alloc::Global;
 use std::thread::Threads;
 
 // How a session of the machine over this source and sink ends.
-pub(crate) fn end_over<S: Source, K: Sink>(
+pub(crate) fn end_over<S: Source, K: Sink, G: Gate>(
     rt: &(impl Threads + Sync),
     alloc: Global,
     machine: &mut Machine,
     index: u32,
     source: &mut S,
     sink: &mut K,
+    gate: &G,
 ) -> Result<End, Memory> {
     let limits = machine.limits();
     let mut work = Work::new(alloc, &limits)?;
@@ -41,6 +42,6 @@ pub(crate) fn answers(
 ) -> Result<bool, Memory> {
     let mut sink = SureSink::new(alloc, 4096)?;
     let mut source = SureSource::new(Vec::from_slice(alloc, input.as_bytes())?);
-    let found = end_over(rt, alloc, machine, index, &mut source, &mut sink)?;
+    let found = end_over(rt, alloc, machine, index, &mut source, &mut sink, &FreeGate)?;
     Ok(found == end && sink.bytes() == replies.as_bytes())
 }

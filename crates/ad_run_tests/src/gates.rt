@@ -1,10 +1,9 @@
 //! What passes the gate, and how often.
+use crate::dialogues::end_over;
 use ad_base::{Limits, Memory};
 use ad_core::Machine;
 use ad_gate::{Gate, Point};
 use ad_io::{SureSink, SureSource};
-use ad_session::{Work, session};
-use ad_theory::Tally;
 use std::alloc::Global;
 use std::hash::RandomState;
 use std::sync::atomic::{AtomicU32, Ordering};
@@ -41,25 +40,13 @@ fn counted(
 ) -> Result<(u32, u32), Memory> {
     let limits = Limits::standard();
     let mut machine = Machine::new(alloc, keys, limits, 1, 1)?;
-    let mut work = Work::new(alloc, &limits)?;
     let mut sink = SureSink::new(alloc, 4096)?;
     let mut source = SureSource::new(Vec::from_slice(alloc, input.as_bytes())?);
-    let mut tally = Tally::new();
     let gate = Counting {
         requests: AtomicU32::new(0),
         extracts: AtomicU32::new(0),
     };
-    session(
-        rt,
-        alloc,
-        &mut source,
-        &mut sink,
-        &mut machine,
-        0,
-        &mut work,
-        &gate,
-        &mut tally,
-    );
+    end_over(rt, alloc, &mut machine, 0, &mut source, &mut sink, &gate)?;
     drop(machine);
     Ok((
         gate.requests.load(Ordering::SeqCst),

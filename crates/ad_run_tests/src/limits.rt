@@ -55,48 +55,61 @@ fn expect(
 
 const ADDED: &str = "OK 1 37\nadded 3 already 0 removed 0 absent 0\n";
 
-// Limits on axioms, entities, bytes and editions, and the reply to the edit of three axioms. These have four entities, and
-// their document has 84 bytes.
-static LIMITS: [([u32; 2], u64, u32, &str); 10] = [
-    ([3, 4], 84, 1, ADDED),
-    ([4, 5], 85, 2, ADDED),
-    ([0, 0], 0, 0, "NO 30 0 axioms 3\n"),
-    ([2, 3], 83, 0, "NO 30 0 axioms 3\n"),
-    ([3, 3], 83, 0, "NO 30 0 entities 4\n"),
-    ([3, 4], 83, 0, "NO 30 0 bytes 84\n"),
-    ([3, 4], 84, 0, "NO 30 0 editions 1\n"),
-    ([2, 4], 84, 1, "NO 30 0 axioms 3\n"),
-    ([3, 3], 84, 1, "NO 30 0 entities 4\n"),
-    ([3, 4], 83, 1, "NO 30 0 bytes 84\n"),
-];
-
-// The standard limits, with these in place of some.
-fn limits_with(most: [u32; 2], bytes: u64, editions: u32) -> Limits
-    ensures { AreWithinStandard result }
-{
-    let standard = Limits::standard();
-    Limits {
-        axioms: most[0].min(standard.axioms),
-        entities: most[1].min(standard.entities),
-        bytes: bytes.min(standard.bytes),
-        editions: editions.min(standard.editions),
-        ..standard
-    }
+// The edit of three axioms has four entities, and makes a document of 84 bytes.
+#[test]
+fn at_the_limits(rt: HostRuntime) -> Result<(), Fail> {
+    let mut limits = Limits::standard();
+    limits.axioms = 3;
+    limits.entities = 4;
+    limits.bytes = 84;
+    limits.editions = 1;
+    expect(&rt, rt.alloc(), limits, THREE, ADDED, End::Closed)
 }
 
-// Each limit one below, at and one above what an edit makes, and the order in which they are looked at.
 #[test]
-fn each_limit(rt: HostRuntime) -> Result<(), Fail> {
-    for (most, bytes, editions, replies) in &LIMITS {
-        let limits = limits_with(*most, *bytes, *editions);
-        expect(&rt, rt.alloc(), limits, THREE, replies, End::Closed)?;
-    }
-    Ok(())
+fn one_above(rt: HostRuntime) -> Result<(), Fail> {
+    let mut limits = Limits::standard();
+    limits.axioms = 4;
+    limits.entities = 5;
+    limits.bytes = 85;
+    limits.editions = 2;
+    expect(&rt, rt.alloc(), limits, THREE, ADDED, End::Closed)
+}
+
+// All limits are one below what the edit needs, and then one after another is not.
+#[test]
+fn one_below_in_order(rt: HostRuntime) -> Result<(), Fail> {
+    let mut limits = Limits::standard();
+    limits.axioms = 2;
+    limits.entities = 3;
+    limits.bytes = 83;
+    limits.editions = 0;
+    let axioms = "NO 30 0 axioms 3\n";
+    expect(&rt, rt.alloc(), limits, THREE, axioms, End::Closed)?;
+    limits.axioms = 3;
+    let entities = "NO 30 0 entities 4\n";
+    expect(&rt, rt.alloc(), limits, THREE, entities, End::Closed)?;
+    limits.entities = 4;
+    let bytes = "NO 30 0 bytes 84\n";
+    expect(&rt, rt.alloc(), limits, THREE, bytes, End::Closed)?;
+    limits.bytes = 84;
+    let editions = "NO 30 0 editions 1\n";
+    expect(&rt, rt.alloc(), limits, THREE, editions, End::Closed)
+}
+
+#[test]
+fn no_axiom(rt: HostRuntime) -> Result<(), Fail> {
+    let mut limits = Limits::standard();
+    limits.axioms = 0;
+    let input = "EDIT 24\n+SubClassOf(<u:A> <u:B>)";
+    let refused = "NO 30 0 axioms 1\n";
+    expect(&rt, rt.alloc(), limits, input, refused, End::Closed)
 }
 
 #[test]
 fn later_editions(rt: HostRuntime) -> Result<(), Fail> {
-    let limits = limits_with([9, 9], 99, 1);
+    let mut limits = Limits::standard();
+    limits.editions = 1;
     let input = "EDIT 25\n+SubClassOf(<u:A> <u:B>)\nEDIT 0\n";
     let replies = "OK 1 37\nadded 1 already 0 removed 0 absent 0\nNO 30 1 editions 2\n";
     expect(&rt, rt.alloc(), limits, input, replies, End::Closed)
