@@ -1,3 +1,4 @@
 pub mod Searched
 pub mod Wholes
 pub mod Ahead
+pub mod Known

@@ -9,6 +9,7 @@ pub use stars::star_rows;
 mod ahead;
 mod join;
 mod look;
+mod meets;
 mod search;
 mod sides;
 mod stars;
