@@ -1,3 +1,4 @@
 pub mod Joins
 pub mod AheadLemmas
 pub mod CommonLemmas
+pub mod KnownLemmas
