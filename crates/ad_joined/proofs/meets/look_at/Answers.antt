@@ -10,7 +10,7 @@ returns-then-has-clause-met g c t =
     let taken = has c.args.out.now c.args.slot in
     let loose = g.U.Universe.is_local c.args.universe.now c.args.side (has c.args.reached.now) c.args.slot in
     let needed : IsTrue (not taken && not loose) = sym c.is_needed.ensures.needed ∙ c.if-not-is_needed.false in
-    (c.args.slot, ?, not_true loose (and_right (not taken) (not loose) needed))
+    (c.args.slot, sym c.has-2.ensures ∙ c.if-has.true, not_true loose (and_right (not taken) (not loose) needed))
 
 pub returns-clause-gathered : goal.returns-clause-gathered
 returns-clause-gathered g c seed w =
@@ -22,5 +22,5 @@ returns-clause-gathered g c seed w =
     let needed : IsTrue (not taken && not loose) = sym c.is_needed.ensures.needed ∙ c.if-not-is_needed.false in
     let below : slot < length c.args.out.now = omega (arith, g.met.U.Universe.live_below u slot c.requires.live, c.requires.out) in
     takes (g.U.Universe.symbols_of u) local (g.met.U.Universe.antitone u c.args.side) c.args.out.now c.take.new.out slot below
-    ? (has c.args.reached.now) (λ e t. t)
+    (sym c.has.ensures ∙ c.if-not-has.false) (has c.args.reached.now) (λ e t. t)
     (not_true loose (and_right (not taken) (not loose) needed)) c.take.ensures.taken c.take.ensures.also w
