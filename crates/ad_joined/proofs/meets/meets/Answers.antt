@@ -20,10 +20,14 @@ returns-then-look_for-clause-fixed g c t =
         (looks.gathered (has c.args.seed.now)
         (gathered_begins L (has c.args.seed.now) (λ i. IsTrue (has c.args.row.now i)) (λ i. IsTrue (has c.clear.new.self i)) (has c.begin.new.reached)
         (λ i t. not_both t (c.clear.ensures.empty i)) c.begin.ensures.seed))
-        c.requires.fixed (looks.met ?)
+        c.requires.fixed (looks.met c.if-look_for.true)
 
 pub returns-then-look_for-2-clause-fixed : goal.returns-then-look_for-2-clause-fixed
-returns-then-look_for-2-clause-fixed g c t = ?
+returns-then-look_for-2-clause-fixed g c t =
+    let u = c.args.universe.now in
+    let looks = c.look_for-in-Some.ensures in
+    met_fixed (logic_of (g.U.Universe.symbols_of u) (g.U.Universe.is_local u c.args.side)) (g.met.U.Universe.antitone u c.args.side)
+        (looks.gathered (has c.args.seed.now) c.waiting.invariant.gathered) c.requires.fixed (looks.met c.if-look_for-2.true)
 
 pub waiting-init : goal.waiting-init
 waiting-init g c =
