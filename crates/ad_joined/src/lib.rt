@@ -8,6 +8,7 @@ pub use stars::star_rows;
 
 mod ahead;
 mod join;
+mod known;
 mod look;
 mod meets;
 mod search;

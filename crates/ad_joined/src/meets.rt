@@ -123,6 +123,7 @@ pub(crate) fn meets<U: Universe>(
     requires reached { length reached.old ≡ U.symbol_count universe.now }
     requires room { length reached.old ≤ vec_capacity pending.old }
     ensures fixed { IsTrue result → IsFixed (logic_of (U.symbols_of universe.now) (U.is_local universe.now side)) (has seed.now) (has row.now) }
+    ensures some { IsTrue result → (i : ℕ) × IsTrue (has same.now i) }
     ensures counted { tally.old.tests ≤ tally.new.tests }
     ensures runs { tally.new.runs ≡ tally.old.runs }
     ensures room { vec_capacity pending.new ≡ vec_capacity pending.old }

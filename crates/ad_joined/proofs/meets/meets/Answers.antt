@@ -29,6 +29,12 @@ returns-then-look_for-2-clause-fixed g c t =
     met_fixed (logic_of (g.U.Universe.symbols_of u) (g.U.Universe.is_local u c.args.side)) (g.met.U.Universe.antitone u c.args.side)
         (looks.gathered (has c.args.seed.now) c.waiting.invariant.gathered) c.requires.fixed (looks.met c.if-look_for-2.true)
 
+pub returns-then-look_for-clause-some : goal.returns-then-look_for-clause-some
+returns-then-look_for-clause-some g c t = let met = c.look_for.ensures.met c.if-look_for.true in (met.0, met.1)
+
+pub returns-then-look_for-2-clause-some : goal.returns-then-look_for-2-clause-some
+returns-then-look_for-2-clause-some g c t = let met = c.look_for-in-Some.ensures.met c.if-look_for-2.true in (met.0, met.1)
+
 pub waiting-init : goal.waiting-init
 waiting-init g c =
     let u = c.args.universe.now in
