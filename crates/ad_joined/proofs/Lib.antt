@@ -2,3 +2,4 @@ pub mod Joins
 pub mod AheadLemmas
 pub mod CommonLemmas
 pub mod KnownLemmas
+pub mod KnownRows
