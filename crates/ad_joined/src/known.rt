@@ -30,8 +30,7 @@ pub(crate) struct Known {
 fn is_better(row: &Row, other: &Row) -> bool
     requires { length row.now ≡ length other.now }
 {
-    row.count() / 2 > other.count()
-        || (row.count() > other.count() / 2 && row.is_subset(other))
+    row.count() / 2 > other.count() || (row.count() > other.count() / 2 && row.is_subset(other))
 }
 
 impl Known {
@@ -122,12 +121,28 @@ impl Known {
             return false;
         }
         if !meets(
-            universe, Side::Bottom, seed, &self.row, &self.same, pending, out, reached, tally,
+            universe,
+            Side::Bottom,
+            seed,
+            &self.row,
+            &self.same,
+            pending,
+            out,
+            reached,
+            tally,
         ) {
             return false;
         }
         meets(
-            universe, Side::Top, seed, &self.row, &self.same, pending, out, reached, tally,
+            universe,
+            Side::Top,
+            seed,
+            &self.row,
+            &self.same,
+            pending,
+            out,
+            reached,
+            tally,
         )
     }
 }

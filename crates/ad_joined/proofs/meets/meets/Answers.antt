@@ -17,17 +17,17 @@ returns-then-look_for-clause-fixed g c t =
     let looks = c.look_for.ensures in
     let L = logic_of (g.U.Universe.symbols_of u) (g.U.Universe.is_local u c.args.side) in
     met_fixed L (g.met.U.Universe.antitone u c.args.side)
-        (looks.gathered (has c.args.seed.now)
-        (gathered_begins L (has c.args.seed.now) (λ i. IsTrue (has c.args.row.now i)) (λ i. IsTrue (has c.clear.new.self i)) (has c.begin.new.reached)
-        (λ i t. not_both t (c.clear.ensures.empty i)) c.begin.ensures.seed))
-        c.requires.fixed (looks.met c.if-look_for.true)
+    (looks.gathered (has c.args.seed.now)
+    (gathered_begins L (has c.args.seed.now) (λ i. IsTrue (has c.args.row.now i)) (λ i. IsTrue (has c.clear.new.self i)) (has c.begin.new.reached)
+    (λ i t. not_both t (c.clear.ensures.empty i)) c.begin.ensures.seed))
+    c.requires.fixed (looks.met c.if-look_for.true)
 
 pub returns-then-look_for-2-clause-fixed : goal.returns-then-look_for-2-clause-fixed
 returns-then-look_for-2-clause-fixed g c t =
     let u = c.args.universe.now in
     let looks = c.look_for-in-Some.ensures in
     met_fixed (logic_of (g.U.Universe.symbols_of u) (g.U.Universe.is_local u c.args.side)) (g.met.U.Universe.antitone u c.args.side)
-        (looks.gathered (has c.args.seed.now) c.waiting.invariant.gathered) c.requires.fixed (looks.met c.if-look_for-2.true)
+    (looks.gathered (has c.args.seed.now) c.waiting.invariant.gathered) c.requires.fixed (looks.met c.if-look_for-2.true)
 
 pub returns-then-look_for-clause-some : goal.returns-then-look_for-clause-some
 returns-then-look_for-clause-some g c t = let met = c.look_for.ensures.met c.if-look_for.true in (met.0, met.1)
