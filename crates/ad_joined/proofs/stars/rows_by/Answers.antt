@@ -51,7 +51,7 @@ loop-at-preserved g c =
     ap (map value) pushed ∙ map-append value c.loop-at.rows.items (arc ∷ []) in
     record {
       found = subst (λ l. AllZip R l (map value c.push.new.self.items)) (sym (take_more slots i 0 c.loop-at-test.true))
-          (subst (λ r. AllZip R (take i slots ++ slot ∷ []) r) (sym rows) (all_zipped_more R (take i slots) (map value c.loop-at.rows.items) slot arc_value arc v.found e.found));
+          (subst (λ r. AllZip R (take i slots ++ slot ∷ []) r) (sym rows) (all_zipped_more R (take i slots) (map value c.loop-at.rows.items) slot (arc_value arc) v.found e.found));
       stars = e.stars;
       counted = omega (arith, e.counted, v.counted);
       runs = elim e.runs [
