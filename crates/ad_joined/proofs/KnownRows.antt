@@ -15,6 +15,7 @@ module _ (symbols : ℕ → List ℕ) (local : Side → (ℕ → Bool) → ℕ �
     row_size = k.row_size;
     closure_size = k.closure_size;
     same_size = size ∙ k.same_size;
+    has_symbols = k.has_symbols;
     only = k.only;
     each = λ i t. elim (members i t) [
       | inl s ↦ k.each i s
@@ -33,6 +34,7 @@ module _ (symbols : ℕ → List ℕ) (local : Side → (ℕ → Bool) → ℕ �
     row_size = row_size;
     closure_size = closure_size;
     same_size = same_size;
+    has_symbols = λ a e h sig. (closed e).1 (inr (a, h, sig));
     only = λ e h. elim ((closed e).0 h) [ inl s ↦ (slot, here, s) | inr r ↦ r ];
     each = λ i t. let e = members i t in (
       subst (λ j. IsTrue (has row j)) (sym e) here,

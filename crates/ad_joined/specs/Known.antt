@@ -19,6 +19,14 @@ pub record IsKnown (symbols : ℕ → List ℕ) (local : Side → (ℕ → Bool)
   pub row_size : length row ≡ slots
   pub closure_size : length closure ≡ symbol_count
   pub same_size : length same ≡ slots
+  pub has_symbols : (a s : ℕ) → IsTrue (has row a) → IsTrue (among (symbols a) s) → IsTrue (has closure s)
   pub only : (s : ℕ) → IsTrue (has closure s) → (a : ℕ) × IsTrue (has row a) × IsTrue (among (symbols a) s)
   pub each : (a : ℕ) → IsTrue (has same a) → IsTrue (has row a)
       × IsStar (logic_of symbols (local Bottom)) (logic_of symbols (local Top)) (among (symbols a)) (λ i. IsTrue (live i)) (has row)
+
+-- the row is its own module on both sides for the seed, and the star module for the signature of one of its axioms
+pub record IsPart (symbols : ℕ → List ℕ) (local : Side → (ℕ → Bool) → ℕ → Bool) (live : ℕ → Bool) (seed : ℕ → Bool) (row : List Bool) : Type 0 where
+  pub bottom : IsFixed (logic_of symbols (local Bottom)) seed (has row)
+  pub top : IsFixed (logic_of symbols (local Top)) seed (has row)
+  pub of : ℕ
+  pub star : IsStar (logic_of symbols (local Bottom)) (logic_of symbols (local Top)) (among (symbols of)) (λ i. IsTrue (live i)) (has row)

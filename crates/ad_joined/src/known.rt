@@ -1,10 +1,10 @@
-ghost use Rattle.std.specs.Prelude.{◌≡◌, ◌≤◌, ◌<◌, ℕ, Bool, List, IsTrue, IfOk, OnOk, length, vec_capacity};
+ghost use Rattle.std.specs.Prelude.{◌≡◌, ◌≤◌, ◌<◌, ℕ, ◌&&◌, ◌||◌, not, Bool, List, IsTrue, IfOk, OnOk, length, vec_capacity};
 ghost use Rattle.std.specs.Arc.{arc_value};
 ghost use Rattle.ad_base.specs.declared.limits.Kind.TheVariants.{Star};
 ghost use Rattle.ad_base.specs.declared.limits.Side.{Side};
 ghost use Rattle.ad_base.specs.declared.limits.Side.TheVariants.{Bottom, Top};
 ghost use Rattle.ad_bits.specs.Rows.{has};
-ghost use Rattle.ad_joined.specs.Known.{IsKnown};
+ghost use Rattle.ad_joined.specs.Known.{IsKnown, IsPart};
 ghost use Rattle.ad_theory.specs.Module.{IsStar};
 ghost use Rattle.ad_theory.specs.Numbers.{among, logic_of, IsNumberedModule};
 
@@ -87,9 +87,9 @@ impl Known {
         Ok(())
     }
 
-    // Whether the module is the star module for the seed too, which is looked for in `start`. `pending`, `out` and
-    // `reached` are room.
-    pub(crate) fn is_again<U: Universe>(
+    // Whether the module is its own module for the seed too, on both sides. So it is a part of the seed's star module,
+    // which is looked for in `start`. `pending`, `out` and `reached` are room.
+    pub(crate) fn is_part<U: Universe>(
         &self,
         universe: &U,
         seed: &Row,
@@ -106,15 +106,15 @@ impl Known {
         requires out { length out.old ≡ U.slot_count universe.now }
         requires reached { length reached.old ≡ U.symbol_count universe.now }
         requires room { length reached.old ≤ vec_capacity pending.old }
-        ensures again { IsTrue result → IsStar (logic_of (U.symbols_of universe.now) (U.is_local universe.now Bottom))
-            (logic_of (U.symbols_of universe.now) (U.is_local universe.now Top)) (has seed.now) (λ i. IsTrue (U.is_live universe.now i)) (has (arc_value self.now.row)) }
+        ensures part { IsTrue result → IsPart (U.symbols_of universe.now) (U.is_local universe.now) (U.is_live universe.now)
+            (has seed.now) (arc_value self.now.row) }
         ensures counted { tally.old.tests ≤ tally.new.tests }
         ensures runs { tally.new.runs ≡ tally.old.runs }
         ensures room { vec_capacity pending.new ≡ vec_capacity pending.old }
         ensures out { length out.new ≡ length out.old }
         ensures reached { length reached.new ≡ length reached.old }
     {
-        if !seed.is_subset(&self.closure) {
+        if !self.same.meets(start) {
             return false;
         }
         if !self.row.is_subset(start) {
@@ -144,5 +144,35 @@ impl Known {
             reached,
             tally,
         )
+    }
+
+    // Whether these are symbols of the module's axioms.
+    pub(crate) fn has_all(&self, seed: &Row) -> bool
+        requires { length seed.now ≡ length self.now.closure }
+        ensures { IsTrue result → (s : ℕ) → IsTrue (has seed.now s) → IsTrue (has self.now.closure s) }
+    {
+        seed.is_subset(&self.closure)
+    }
+
+    // Takes the module's axioms out of `start`, and puts their symbols into `seed`.
+    pub(crate) fn take_out(&self, seed: &mut Row, start: &mut Row)
+        requires seed { length seed.old ≡ length self.now.closure }
+        requires start { length start.old ≡ length (arc_value self.now.row) }
+        ensures seed { (s : ℕ) → has seed.new s ≡ (has seed.old s || has self.now.closure s) }
+        ensures start { (i : ℕ) → has start.new i ≡ (has start.old i && not (has (arc_value self.now.row) i)) }
+        ensures seed_size { length seed.new ≡ length seed.old }
+        ensures start_size { length start.new ≡ length start.old }
+    {
+        seed.union_with(&self.closure);
+        start.minus_with(&self.row);
+    }
+
+    // Adds the module's axioms.
+    pub(crate) fn add_to(&self, out: &mut Row)
+        requires { length out.old ≡ length (arc_value self.now.row) }
+        ensures members { (i : ℕ) → has out.new i ≡ (has out.old i || has (arc_value self.now.row) i) }
+        ensures size { length out.new ≡ length out.old }
+    {
+        out.union_with(&self.row);
     }
 }

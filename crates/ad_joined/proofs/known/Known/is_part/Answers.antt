@@ -1,4 +1,4 @@
--- The module is its own module on both sides for the seed, whose symbols are those of its axioms.
+-- The search meets one of those axioms that have the module, on both sides.
 use Rattle.std.proofs.Common.{◌≡◌, ◌∙◌, ℕ, Bool, IsTrue, sym, subst}
 use Rattle.std.specs.Arc.{arc_value}
 use Rattle.ad_base.specs.declared.limits.Side.TheVariants.{Bottom, Top}
@@ -6,8 +6,7 @@ use Rattle.ad_bits.specs.Rows.{has}
 use Rattle.ad_theory.specs.Module.{IsFixed}
 use Rattle.ad_theory.specs.Numbers.{among, logic_of}
 use Rattle.ad_joined.specs.Known.{HasFixed}
-use Rattle.ad_joined.proofs.KnownLemmas.{star_again}
-use Rattle.ad_joined.proofs.known.Known.is_again.Goals as goal
+use Rattle.ad_joined.proofs.known.Known.is_part.Goals as goal
 
 pub meets-requires-clause-fixed : goal.meets-requires-clause-fixed
 meets-requires-clause-fixed g c =
@@ -21,17 +20,17 @@ meets-requires-2-clause-fixed g c =
     let T = logic_of (g.U.Universe.symbols_of u) (g.U.Universe.is_local u Top) in
     subst (λ r. HasFixed T (has r) (has c.args.self.now.same)) (sym c.deref-3.ensures) (λ a t. let e = c.requires.known.each a t in (e.0, e.1.top))
 
-pub returns-clause-again : goal.returns-clause-again
-returns-clause-again g c t =
+pub returns-clause-part : goal.returns-clause-part
+returns-clause-part g c t =
     let u = c.args.universe.now in
     let symbols = g.U.Universe.symbols_of u in
     let B = logic_of symbols (g.U.Universe.is_local u Bottom) in
     let T = logic_of symbols (g.U.Universe.is_local u Top) in
     let seed = has c.args.seed.now in
-    let known = c.requires.known in
-    let one = c.meets.ensures.some c.if-not-meets.false in
-    let part : (s : ℕ) → IsTrue (seed s) → (a : ℕ) × IsTrue (has (arc_value c.args.self.now.row) a) × IsTrue (among (symbols a) s) =
-    (λ s h. known.only s (c.is_subset.ensures.subset.0 c.if-not-is_subset.false s h)) in
-    star_again {B = B} {T = T} (known.each one.0 one.1).1 part part
-    (subst (λ r. IsFixed B seed (has r)) c.deref-2.ensures (c.meets.ensures.fixed c.if-not-meets.false))
-    (subst (λ r. IsFixed T seed (has r)) c.deref-3.ensures (c.meets-2.ensures.fixed t))
+    let one = c.meets-2.ensures.some c.if-not-meets-2.false in
+    record {
+      bottom = subst (λ r. IsFixed B seed (has r)) c.deref-2.ensures (c.meets-2.ensures.fixed c.if-not-meets-2.false);
+      top = subst (λ r. IsFixed T seed (has r)) c.deref-3.ensures (c.meets-3.ensures.fixed t);
+      of = one.0;
+      star = (c.requires.known.each one.0 one.1).1;
+    }
