@@ -7,6 +7,7 @@ ghost use Rattle.ad_base.specs.declared.limits.Side.TheVariants.{Bottom, Top};
 ghost use Rattle.ad_base.specs.Limits.{AreWithinStandard};
 ghost use Rattle.ad_bits.specs.Rows.{has};
 ghost use Rattle.ad_groups.specs.GenuineRows.{IsGenuineRow};
+ghost use Rattle.ad_joined.specs.Known.{IsPart};
 ghost use Rattle.ad_joined.specs.Searched.{IsSideRow};
 ghost use Rattle.ad_joined.specs.Stars.{AreStars};
 ghost use Rattle.ad_theory.specs.Alternation.{IsAboveStar};
@@ -125,22 +126,48 @@ impl Stars {
         );
     }
 
-    // Whether the known module is the star module for what is in `seed`, the signature of the slot's axiom.
-    fn is_again<U: Universe>(&mut self, universe: &U, slot: u32, tally: &mut Tally) -> bool
+    // Finds the row of the slot's star module, which is known from then on where it is better.
+    fn anew<U: Universe>(
+        &mut self,
+        alloc: Global,
+        universe: &U,
+        slot: u32,
+        tally: &mut Tally,
+    ) -> Result<Arc<Row>, Memory>
         requires stars { AreStars (U.symbols_of universe.now) (U.is_local universe.now) (U.is_live universe.now)
             (U.slot_count universe.now) (U.symbol_count universe.now) self.old }
         requires live { IsTrue (U.is_live universe.now slot) }
         requires seed { has self.old.seed ≡ among (U.symbols_of universe.now slot) }
+        requires above { IsAboveStar (logic_of (U.symbols_of universe.now) (U.is_local universe.now Bottom))
+            (logic_of (U.symbols_of universe.now) (U.is_local universe.now Top)) (has self.old.seed) (λ i. IsTrue (U.is_live universe.now i)) (has self.old.start) }
+        ensures stars { OnOk result (AreStars (U.symbols_of universe.now) (U.is_local universe.now) (U.is_live universe.now)
+            (U.slot_count universe.now) (U.symbol_count universe.now) self.new) }
+        ensures found { IfOk result (λ row. IsGenuineRow (U.symbols_of universe.now) (U.is_local universe.now) (U.is_live universe.now)
+            (U.slot_count universe.now) Star slot (arc_value row)) }
+        ensures counted { tally.old.tests ≤ tally.new.tests }
+        ensures runs { OnOk result (IsRaisedBy 1 tally.old.runs tally.new.runs) }
+    {
+        self.find(universe, tally);
+        let row = shared(alloc, &self.out)?;
+        self.known.learn(slot, &row, &self.closure)?;
+        Ok(row)
+    }
+
+    // Whether the known module is its own module on both sides for what is in `seed`.
+    fn is_part<U: Universe>(&mut self, universe: &U, tally: &mut Tally) -> bool
+        requires stars { AreStars (U.symbols_of universe.now) (U.is_local universe.now) (U.is_live universe.now)
+            (U.slot_count universe.now) (U.symbol_count universe.now) self.old }
         ensures stars { AreStars (U.symbols_of universe.now) (U.is_local universe.now) (U.is_live universe.now)
             (U.slot_count universe.now) (U.symbol_count universe.now) self.new }
         ensures seed { self.new.seed ≡ self.old.seed }
         ensures start { self.new.start ≡ self.old.start }
-        ensures again { IsTrue result → IsStar (logic_of (U.symbols_of universe.now) (U.is_local universe.now Bottom))
-            (logic_of (U.symbols_of universe.now) (U.is_local universe.now Top)) (among (U.symbols_of universe.now slot)) (λ i. IsTrue (U.is_live universe.now i)) (has (arc_value self.new.known.row)) }
+        ensures known { self.new.known ≡ self.old.known }
+        ensures part { IsTrue result → IsPart (U.symbols_of universe.now) (U.is_local universe.now) (U.is_live universe.now)
+            (has self.new.seed) (arc_value self.new.known.row) }
         ensures counted { tally.old.tests ≤ tally.new.tests }
         ensures runs { tally.new.runs ≡ tally.old.runs }
     {
-        if !self.known.is_again(
+        self.known.is_part(
             universe,
             &self.seed,
             &self.start,
@@ -148,11 +175,62 @@ impl Stars {
             &mut self.out,
             &mut self.closure,
             tally,
-        ) {
-            return false;
-        }
+        )
+    }
+
+    // The row of the known module, shared, where it is the slot's star module too: all symbols are those of its axioms.
+    fn again<U: Universe>(
+        &mut self,
+        universe: &U,
+        slot: u32,
+        tally: &mut Tally,
+    ) -> Result<Arc<Row>, Memory>
+        requires stars { AreStars (U.symbols_of universe.now) (U.is_local universe.now) (U.is_live universe.now)
+            (U.slot_count universe.now) (U.symbol_count universe.now) self.old }
+        requires live { IsTrue (U.is_live universe.now slot) }
+        requires seed { has self.old.seed ≡ among (U.symbols_of universe.now slot) }
+        requires part { IsPart (U.symbols_of universe.now) (U.is_local universe.now) (U.is_live universe.now)
+            (has self.old.seed) (arc_value self.old.known.row) }
+        requires all { (s : ℕ) → IsTrue (has self.old.seed s) → IsTrue (has self.old.known.closure s) }
+        ensures stars { OnOk result (AreStars (U.symbols_of universe.now) (U.is_local universe.now) (U.is_live universe.now)
+            (U.slot_count universe.now) (U.symbol_count universe.now) self.new) }
+        ensures found { IfOk result (λ row. IsGenuineRow (U.symbols_of universe.now) (U.is_local universe.now) (U.is_live universe.now)
+            (U.slot_count universe.now) Star slot (arc_value row)) }
+        ensures counted { tally.old.tests ≤ tally.new.tests }
+        ensures runs { OnOk result (IsRaisedBy 1 tally.old.runs tally.new.runs) }
+    {
+        tally.count_run();
+        let row = Arc::try_clone(&self.known.row)?;
         self.known.add(slot);
-        true
+        Ok(row)
+    }
+
+    // Finds the star module for what is in `seed`, of which the known module is a part: the rest of it is the star module
+    // of the other axioms, for the symbols of both.
+    fn join<U: Universe>(&mut self, universe: &U, tally: &mut Tally)
+        requires stars { AreStars (U.symbols_of universe.now) (U.is_local universe.now) (U.is_live universe.now)
+            (U.slot_count universe.now) (U.symbol_count universe.now) self.old }
+        requires above { IsAboveStar (logic_of (U.symbols_of universe.now) (U.is_local universe.now Bottom))
+            (logic_of (U.symbols_of universe.now) (U.is_local universe.now Top)) (has self.old.seed) (λ i. IsTrue (U.is_live universe.now i)) (has self.old.start) }
+        requires part { IsPart (U.symbols_of universe.now) (U.is_local universe.now) (U.is_live universe.now)
+            (has self.old.seed) (arc_value self.old.known.row) }
+        ensures stars { AreStars (U.symbols_of universe.now) (U.is_local universe.now) (U.is_live universe.now)
+            (U.slot_count universe.now) (U.symbol_count universe.now) self.new }
+        ensures found { IsStar (logic_of (U.symbols_of universe.now) (U.is_local universe.now Bottom))
+            (logic_of (U.symbols_of universe.now) (U.is_local universe.now Top)) (has self.old.seed) (λ i. IsTrue (U.is_live universe.now i)) (has self.new.out) }
+        ensures counted { tally.old.tests ≤ tally.new.tests }
+        ensures runs { IsRaisedBy 1 tally.old.runs tally.new.runs }
+    {
+        self.known.take_out(&mut self.seed, &mut self.start);
+        self.starred.star_of_part(
+            universe,
+            &self.seed,
+            &self.start,
+            &mut self.out,
+            &mut self.closure,
+            tally,
+        );
+        self.known.add_to(&mut self.out);
     }
 
     // The row of the star module for the signature of the slot's axiom, whose modules on the two sides these are.
@@ -180,15 +258,14 @@ impl Stars {
         ensures runs { OnOk result (IsRaisedBy 1 tally.old.runs tally.new.runs) }
     {
         self.begin(universe, slot, bottom, top);
-        if self.is_again(universe, slot, tally) {
-            tally.count_run();
-            let row = Arc::try_clone(&self.known.row)?;
-            return Ok(row);
+        if !self.is_part(universe, tally) {
+            return self.anew(alloc, universe, slot, tally);
         }
-        self.find(universe, tally);
-        let row = shared(alloc, &self.out)?;
-        self.known.learn(slot, &row, &self.closure)?;
-        Ok(row)
+        if self.known.has_all(&self.seed) {
+            return self.again(universe, slot, tally);
+        }
+        self.join(universe, tally);
+        shared(alloc, &self.out)
     }
 }
 

@@ -8,14 +8,14 @@ use Rattle.ad_theory.specs.Numbers.{among, logic_of}
 use Rattle.ad_joined.specs.Known.{HasFixed}
 use Rattle.ad_joined.proofs.known.Known.is_part.Goals as goal
 
-pub meets-requires-clause-fixed : goal.meets-requires-clause-fixed
-meets-requires-clause-fixed g c =
+pub meets-requires-2-clause-fixed : goal.meets-requires-2-clause-fixed
+meets-requires-2-clause-fixed g c =
     let u = c.args.universe.now in
     let B = logic_of (g.U.Universe.symbols_of u) (g.U.Universe.is_local u Bottom) in
     subst (λ r. HasFixed B (has r) (has c.args.self.now.same)) (sym c.deref-2.ensures) (λ a t. let e = c.requires.known.each a t in (e.0, e.1.bottom))
 
-pub meets-requires-2-clause-fixed : goal.meets-requires-2-clause-fixed
-meets-requires-2-clause-fixed g c =
+pub meets-requires-3-clause-fixed : goal.meets-requires-3-clause-fixed
+meets-requires-3-clause-fixed g c =
     let u = c.args.universe.now in
     let T = logic_of (g.U.Universe.symbols_of u) (g.U.Universe.is_local u Top) in
     subst (λ r. HasFixed T (has r) (has c.args.self.now.same)) (sym c.deref-3.ensures) (λ a t. let e = c.requires.known.each a t in (e.0, e.1.top))
