@@ -265,7 +265,8 @@ impl Stars {
             return self.again(universe, slot, tally);
         }
         self.join(universe, tally);
-        shared(alloc, &self.out)
+        let row = shared(alloc, &self.out)?;
+        Ok(row)
     }
 }
 
