@@ -17,9 +17,9 @@ returns-in-Ok-begin-clause-within c = λ ok.
     sym (ap (λ (e : Limited). passed_by e c.args.batch.now) first) ∙ c.in-Ok-begin.ensures.within ok
 
 pub unread_by-requires : goal.unread_by-requires
-unread_by-requires c = λ edition is.
+unread_by-requires c =
     let hindered = IsHinderedBy None (passed_by (limited_of c.in-Ok.first) c.args.batch.now) c.in-Ok.first.shown.number in
-    false≢true (subst (λ (cause : Refused). hindered cause) is c.in-Err-begin.ensures.refused).1
+    record { unmoved = λ edition is. false≢true (subst (λ (cause : Refused). hindered cause) is c.in-Err-begin.ensures.refused).1 }
 
 pub returns-clause-refused : goal.returns-clause-refused
 returns-clause-refused c = λ refusal is.
