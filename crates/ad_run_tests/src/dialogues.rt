@@ -23,7 +23,7 @@ pub(crate) fn end_over<S: Source, K: Sink, G: Gate>(
     if index < machine.sessions() {
         let mut tally = Tally::new();
         Ok(session(
-            rt, alloc, source, sink, machine, index, &mut work, &FreeGate, &mut tally,
+            rt, alloc, source, sink, machine, index, &mut work, gate, &mut tally,
         ))
     } else {
         Err(Memory)

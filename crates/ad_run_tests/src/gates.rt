@@ -11,6 +11,7 @@ use std::test::Fail;
 use std::thread::Threads;
 
 // A gate that counts.
+#[derive(Drop)]
 struct Counting {
     // the sum of one more than each request's number
     requests: AtomicU32,
