@@ -1,10 +1,17 @@
 //! The items of a session's input.
 use ad_base::{Kind, Limits};
+use ad_gate::{FreeGate, Point};
 use ad_io::MemSource;
 use ad_items::{Line, Next, Payload, read_item};
 use ad_request::Request;
 use std::alloc::Global;
 use std::test::Fail;
+
+// Where the line of each request passes the gate.
+const POINT: Point = Point::Request {
+    chair: 0,
+    number: 0,
+};
 
 // What an item is, in short: what it asks for, and its payload.
 fn told(next: Next) -> &'static str {
@@ -25,7 +32,7 @@ fn told_request(request: Option<Request>, payload: Payload) -> &'static str {
     }
     match request {
         None => "none",
-        Some(Request::Edit(_)) => "edit",
+        Some(Request::Edit(_, _)) => "edit",
         Some(Request::Module(Kind::Bottom, _)) => "module",
         Some(Request::Export) => "export",
         Some(_) => "other",
@@ -45,7 +52,7 @@ fn comes(alloc: Global, source: &mut MemSource, line: &mut Line, items: &[&str])
         ..Limits::standard()
     };
     for item in items {
-        if told(read_item(alloc, source, line, limits)) != *item {
+        if told(read_item(alloc, source, line, limits, &FreeGate, POINT)) != *item {
             return false;
         }
     }
@@ -92,7 +99,14 @@ fn long_line(alloc: Global, length: usize) -> Result<&'static str, Fail> {
     text.push(b'\n')?;
     let mut source = MemSource::new(text, 100, Vec::new(alloc));
     let mut line = Line::new(alloc)?;
-    Ok(told(read_item(alloc, &mut source, &mut line, Limits::standard())))
+    Ok(told(read_item(
+        alloc,
+        &mut source,
+        &mut line,
+        Limits::standard(),
+        &FreeGate,
+        POINT,
+    )))
 }
 
 #[test]

@@ -1,17 +1,17 @@
 -- The editions of a machine follow its log.
-use Rattle.std.proofs.Common.{◌≡◌, ℕ, ◌+◌, ◌<◌, ◌≤◌, inl, inr, List, [], ◌∷◌, ◌++◌, Option, None, Some, length, take, get_or, set, replicate, refl, ap, sym, ◌∙◌, subst, arith}
+use Rattle.std.proofs.Common.{◌≡◌, ℕ, ◌+◌, ◌<◌, ◌≤◌, inl, inr, Bool, true, false, List, [], ◌∷◌, ◌++◌, Option, None, Some, length, take, get_or, set, replicate, refl, ap, sym, ◌∙◌, subst, arith}
 use Rattle.std.proofs.lemmas.Bool.{cases_eq}
 use Rattle.std.proofs.lemmas.List.{length_push, length-set, length-replicate, get_or-set_same, get_or-set_other, get_or-replicate, take-append-le, take_all}
 use Rattle.ad_base.specs.declared.limits.Limits.{Limits}
 use Rattle.ad_tree.specs.declared.edits.Op.{Op}
 use Rattle.ad_apply.specs.Apply.{applied}
 use Rattle.ad_edition.specs.Log.{Logged, Shown, count_of, next_entry, replay, defined_by}
-use Rattle.ad_edition.specs.Limit.{Passed}
+use Rattle.ad_edition.specs.Limit.{Passed, is_moved}
 use Rattle.ad_edition.specs.Edition.{Limited, IsEditionOf, first_of_all, next_edition, passed_by}
 use Rattle.ad_edition.proofs.LogLemmas.{GoesOn-push, replay-push}
-use Rattle.ad_edition.specs.State.{State, at_first, ticket_of, after_commit, first_passed}
+use Rattle.ad_edition.specs.State.{State, at_first, newest_of, ticket_of, after_commit, first_passed}
 use Rattle.ad_edition.specs.Editions.{AreEditionsOf}
-use Rattle.ad_edition.specs.Events.{Event, Editions, Follow, AreEnabled, after, after_all, next_editions, all_editions, first_editions, unless_passed}
+use Rattle.ad_edition.specs.Events.{Event, Editions, Follow, AreEnabled, after, after_all, next_editions, all_editions, first_editions, unless_hindered}
 
 -- a log has one edition
 pub edition_is : (limits : Limits) (log : List Logged) (edition : Limited) → IsEditionOf limits log edition → edition ≡ record { shown = defined_by log; limits = limits }
@@ -81,20 +81,31 @@ AreEditionsOf-enter limits log entered newest seen at are =
           ];
     }
 
-follow-commits : (machine : State) (editions : Editions) (session : ℕ) (batch : List Op) → Follow machine editions → Follow (after machine (Event.commits session batch)) (next_editions editions (Event.commits session batch))
-follow-commits machine editions session batch follow =
+-- an edit of the newest edition, where another was expected or not
+follow-hindered : (machine : State) (editions : Editions) (session : ℕ) (batch : List Op) (moved : Bool) → Follow machine editions
+    → Follow (unless_hindered moved (first_passed machine batch) machine (after_commit machine session batch)) (unless_hindered moved (passed_by editions.newest batch) editions (record editions { newest = next_edition editions.newest batch }))
+follow-hindered machine editions session batch true follow = follow
+follow-hindered machine editions session batch false follow =
     let entry = next_entry machine.log (ticket_of session) batch in
-    let New : Option Passed → Option Passed → Type 0 = λ p q. Follow (unless_passed p machine (after_commit machine session batch)) (unless_passed q editions (record editions { newest = next_edition editions.newest batch })) in
+    let New : Option Passed → Option Passed → Type 0 = λ p q. Follow (unless_hindered false p machine (after_commit machine session batch)) (unless_hindered false q editions (record editions { newest = next_edition editions.newest batch })) in
     let same_limit : passed_by editions.newest batch ≡ first_passed machine batch = ap (λ (e : Limited). passed_by e batch) (edition_is machine.limits machine.log editions.newest follow.newest_is) in
     subst (New (first_passed machine batch)) (sym same_limit) (elim (first_passed machine batch) as (λ p. New p p) [
       | None ↦ AreEditionsOf-commit machine.limits machine.log machine.entered editions.newest editions.seen entry refl follow
       | Some p ↦ follow
     ])
 
+-- the two sides of an edit agree on whether another edition was expected, and on the limit
+follow-commits : (machine : State) (editions : Editions) (session : ℕ) (batch : List Op) (expected : Option ℕ) → Follow machine editions → Follow (after machine (Event.commits session batch expected)) (next_editions editions (Event.commits session batch expected))
+follow-commits machine editions session batch expected follow =
+    let same : editions.newest ≡ newest_of machine = edition_is machine.limits machine.log editions.newest follow.newest_is in
+    let number : editions.newest.shown.number ≡ length machine.log = ap (λ (e : Limited). e.shown.number) same in
+    subst (λ n. Follow (after machine (Event.commits session batch expected)) (unless_hindered (is_moved expected n) (passed_by editions.newest batch) editions (record editions { newest = next_edition editions.newest batch })))
+    (sym number) (follow-hindered machine editions session batch (is_moved expected (length machine.log)) follow)
+
 follow-all : (machine : State) (editions : Editions) (events : List Event) → Follow machine editions → AreEnabled machine events → Follow (after_all machine events) (all_editions editions events)
 follow-all machine editions [] follow enabled = follow
-follow-all machine editions (Event.commits session batch ∷ events) follow enabled =
-    follow-all (after machine (Event.commits session batch)) (next_editions editions (Event.commits session batch)) events (follow-commits machine editions session batch follow) enabled.1
+follow-all machine editions (Event.commits session batch expected ∷ events) follow enabled =
+    follow-all (after machine (Event.commits session batch expected)) (next_editions editions (Event.commits session batch expected)) events (follow-commits machine editions session batch expected follow) enabled.1
 follow-all machine editions (Event.enters session ∷ events) follow enabled =
     follow-all (after machine (Event.enters session)) (next_editions editions (Event.enters session)) events (AreEditionsOf-enter machine.limits machine.log machine.entered editions.newest editions.seen session follow) enabled.1
 

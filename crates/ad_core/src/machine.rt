@@ -1,5 +1,6 @@
-ghost use Rattle.std.specs.Prelude.{◌≡◌, ◌<◌, ◌≤◌, ◌^◌, length, None, IfOk, IfErr, IsOk, OnOk, OnErr};
+ghost use Rattle.std.specs.Prelude.{◌≡◌, ◌<◌, ◌≤◌, ◌^◌, length, IsFalse, None, IfOk, IfErr, IsOk, OnOk, OnErr};
 ghost use Rattle.ad_base.specs.Limits.{AreWithinStandard};
+ghost use Rattle.ad_edition.specs.Limit.{is_moved};
 ghost use Rattle.ad_edition.specs.Log.{IsLog};
 ghost use Rattle.ad_edition.specs.Edition.{IsEditionOf, limited_of, next_edition};
 ghost use Rattle.ad_edition.specs.State.{at_first, entered_by, after_attend, after_commit, after_enter, after_look, first_passed, newest_of, receipt_after, IsMachine, IsRefusalOf};
@@ -7,6 +8,8 @@ ghost use Rattle.ad_edition.specs.State.{at_first, entered_by, after_attend, aft
 use crate::owners::{owners_of, owners_of_next, waiting_for};
 use ad_base::{Limits, Memory};
 use ad_edition::{Draft, Edition, Entry, Receipt, Refused};
+use ad_gate::{Gate, Point};
+use ad_theory::Tally;
 use ad_tree::Batch;
 use std::alloc::Global;
 use std::hash::RandomState;
@@ -133,26 +136,34 @@ impl Machine {
         self.looks = 0;
     }
 
-    /// Appends the session's batch to the log, if no limit is passed, and makes the edition of the new log the newest.
-    /// Limits are looked at in the order axioms, entities, bytes, editions. Nothing changes at a refusal. Threads share the
-    /// work.
-    pub fn commit(
+    /// Appends the session's batch to the log, if the newest edition or none is expected and no limit is passed, and makes
+    /// the edition of the new log the newest. Limits are looked at in the order axioms, entities, bytes, editions. Nothing
+    /// changes at a refusal. Threads share the work. It passes the gate before the modules of the new edition are found,
+    /// which the tally counts.
+    pub fn commit<G: Gate>(
         &mut self,
         rt: &(impl Threads + Sync),
         alloc: Global,
         session: u32,
         batch: &Batch,
+        expected: Option<u64>,
+        gate: &G,
+        tally: &mut Tally,
     ) -> Result<Receipt, Refused>
         requires { session < length self.old.entered }
         ensures accepted { OnOk result (self.new ≡ after_commit self.old session batch.now) }
         ensures receipt { IfOk result (λ receipt. receipt ≡ receipt_after self.old batch.now) }
+        ensures expected { IsOk result → IsFalse (is_moved expected (length self.old.log)) }
         ensures within { IsOk result → first_passed self.old batch.now ≡ None }
-        ensures refused { IfErr result (λ cause. IsRefusalOf self.old batch.now cause) }
+        ensures refused { IfErr result (λ cause. IsRefusalOf self.old expected batch.now cause) }
         ensures unchanged { OnErr result (self.new ≡ self.old) }
+        ensures tests { tally.old.tests ≤ tally.new.tests }
+        ensures runs { tally.old.runs ≤ tally.new.runs }
     {
-        let draft = self.newest.begin(alloc, batch)?;
+        let draft = self.newest.begin(alloc, batch, expected)?;
         let receipt = draft.receipt();
-        self.publish(rt, alloc, session, draft)?;
+        gate.pass(Point::Extract { worker: 0, task: 0 });
+        self.publish(rt, alloc, session, draft, tally)?;
         Ok(receipt)
     }
 
@@ -189,17 +200,20 @@ impl Machine {
         alloc: Global,
         session: u32,
         mut draft: Draft,
+        tally: &mut Tally,
     ) -> Result<(), Memory>
         requires session { session < length self.old.entered }
         requires next { draft.next ≡ next_edition (newest_of self.old) draft.batch }
         requires fits { draft.next.shown.number < 2 ^ 32 }
         ensures published { OnOk result (self.new ≡ after_commit self.old session draft.batch) }
         ensures unchanged { OnErr result (self.new ≡ self.old) }
+        ensures tests { tally.old.tests ≤ tally.new.tests }
+        ensures runs { tally.old.runs ≤ tally.new.runs }
     {
         let at = session as usize;
         let sequence = self.edits[at] + 1;
         let entry = draft.take_entry(alloc, session + 1, sequence);
-        let (newest, waiting) = owners_of_next(rt, alloc, draft, self.sessions())?;
+        let (newest, waiting) = owners_of_next(rt, alloc, draft, self.sessions(), tally)?;
         self.log.push(entry)?;
         self.edits[at] = sequence;
         self.waiting = waiting;

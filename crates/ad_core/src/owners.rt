@@ -1,4 +1,4 @@
-ghost use Rattle.std.specs.Prelude.{◌≡◌, replicate, Some, IfOk};
+ghost use Rattle.std.specs.Prelude.{◌≡◌, ◌≤◌, replicate, Some, IfOk};
 ghost use Rattle.ad_core.specs.Kept.{edition_in, editions_in, waiting_in};
 
 use ad_base::Memory;
@@ -44,11 +44,14 @@ pub(crate) fn owners_of_next(
     alloc: Global,
     draft: Draft,
     sessions: u32,
+    tally: &mut Tally,
 ) -> Result<(Arc<Edition>, Vec<Option<Arc<Edition>>>), Memory>
     ensures edition { IfOk result (λ owners. edition_in owners.0 ≡ draft.next) }
     ensures waiting { IfOk result (λ owners. waiting_in owners.1.items ≡ replicate sessions (Some draft.next)) }
+    ensures tests { tally.old.tests ≤ tally.new.tests }
+    ensures runs { tally.old.runs ≤ tally.new.runs }
 {
-    let newest = Arc::new(alloc, draft.fresh(rt, alloc, &mut Tally::new())?)?;
+    let newest = Arc::new(alloc, draft.fresh(rt, alloc, tally)?)?;
     let waiting = waiting_for(alloc, &newest, sessions)?;
     Ok((newest, waiting))
 }

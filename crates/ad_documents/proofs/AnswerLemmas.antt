@@ -43,6 +43,8 @@ unfit text ops is (refusals.Text cause) h = absurd h
 unfit text ops is (refusals.Limit edition which count) h = (h.0, ops, is, h.1)
 unfit text ops is refusals.Memory h = absurd h
 unfit text ops is refusals.Shut h = absurd h
+unfit text ops is (refusals.Atom edition count) h = absurd h
+unfit text ops is (refusals.Moved edition) h = absurd h
 
 -- the cause of an answer that is a refusal
 pub same_cause : {T E : Type 0} (r : Result T E) (a b : E) → r ≡ Err a → IsErrOf r b → a ≡ b

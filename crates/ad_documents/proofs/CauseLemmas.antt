@@ -26,6 +26,8 @@ module _ (once : SpellsOnce document SpellsAdditions) (is_read : IsNotRefused do
   ontology_or_unfit text ontology refusals.Request found h = h
   ontology_or_unfit text ontology refusals.Memory found h = h
   ontology_or_unfit text ontology refusals.Shut found h = h
+  ontology_or_unfit text ontology (refusals.Atom edition count) found h = h
+  ontology_or_unfit text ontology (refusals.Moved edition) found h = h
   ontology_or_unfit text ontology (refusals.Text cause) found h = h.0 (is_read standard.depth text found.ops cause found.spelled h.1)
   ontology_or_unfit text ontology (refusals.Limit edition which count) found h =
       let same : h.1 ≡ found.ops = once standard.depth text h.1 found.ops h.2 found.spelled in
@@ -44,14 +46,20 @@ module _ (once : SpellsOnce document SpellsAdditions) (is_read : IsNotRefused do
   one_cause refused_once text refusals.Request b x y = absurd x
   one_cause refused_once text refusals.Memory b x y = absurd x
   one_cause refused_once text refusals.Shut b x y = absurd x
+  one_cause refused_once text (refusals.Atom edition count) b x y = absurd x
+  one_cause refused_once text (refusals.Moved edition) b x y = absurd x
   one_cause refused_once text (refusals.Text c) refusals.Request x y = absurd y
   one_cause refused_once text (refusals.Text c) refusals.Memory x y = absurd y
   one_cause refused_once text (refusals.Text c) refusals.Shut x y = absurd y
+  one_cause refused_once text (refusals.Text c) (refusals.Atom edition count) x y = absurd y
+  one_cause refused_once text (refusals.Text c) (refusals.Moved edition) x y = absurd y
   one_cause refused_once text (refusals.Text c) (refusals.Text d) x y = ap refusals.Text (refused_once document standard.depth text c d x.0 y.0 x.1 y.1)
   one_cause refused_once text (refusals.Text c) (refusals.Limit e w n) x y = absurd (x.0 (is_read standard.depth text y.1 c y.2 x.1))
   one_cause refused_once text (refusals.Limit e w n) refusals.Request x y = absurd y
   one_cause refused_once text (refusals.Limit e w n) refusals.Memory x y = absurd y
   one_cause refused_once text (refusals.Limit e w n) refusals.Shut x y = absurd y
+  one_cause refused_once text (refusals.Limit e w n) (refusals.Atom edition count) x y = absurd y
+  one_cause refused_once text (refusals.Limit e w n) (refusals.Moved edition) x y = absurd y
   one_cause refused_once text (refusals.Limit e w n) (refusals.Text d) x y = absurd (y.0 (is_read standard.depth text x.1 d x.2 y.1))
   one_cause refused_once text (refusals.Limit e w n) (refusals.Limit e' w' n') x y = two_limits text e e' w w' n n' x y
 

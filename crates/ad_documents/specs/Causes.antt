@@ -20,6 +20,8 @@ IsPassedBy first (refusals.Text cause) = ⊥
 IsPassedBy first (refusals.Limit edition which count) = (edition ≡ 0) × (first ≡ Some (record { which = which; count = count }))
 IsPassedBy first refusals.Memory = ⊥
 IsPassedBy first refusals.Shut = ⊥
+IsPassedBy first (refusals.Atom edition count) = ⊥
+IsPassedBy first (refusals.Moved edition) = ⊥
 
 -- the text is no document, for this cause; or its ontology passes this limit on the edition before it, the first
 abbrev pub IsUnfitFor : List ℕ → Refusal → Type 0
@@ -28,6 +30,8 @@ IsUnfitFor text (refusals.Text cause) = (cause ≢ causes.Memory) × Refuses doc
 IsUnfitFor text (refusals.Limit edition which count) = (edition ≡ 0) × (ops : List Op) × IsDocument standard.depth text ops × (passed standard 0 (applied [] ops) ≡ Some (record { which = which; count = count }))
 IsUnfitFor text refusals.Memory = ⊥
 IsUnfitFor text refusals.Shut = ⊥
+IsUnfitFor text (refusals.Atom edition count) = ⊥
+IsUnfitFor text (refusals.Moved edition) = ⊥
 
 -- a document is refused for one cause at most
 abbrev pub HasOneCause : Type 0

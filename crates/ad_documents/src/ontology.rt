@@ -1,7 +1,8 @@
-ghost use Rattle.std.specs.Prelude.{◌≡◌, ◌<◌, ◌^◌, [], Option, None, length, IfOk, IsErrOf, IsOk};
+ghost use Rattle.std.specs.Prelude.{◌≡◌, ℕ, ◌<◌, ◌^◌, [], Option, None, length, IfOk, IsErrOf, IsOk};
 ghost use Rattle.ad_base.specs.Limits.{standard};
 ghost use Rattle.ad_apply.specs.Apply.{applied};
 ghost use Rattle.ad_edition.specs.Limit.{IsRefusedBy, Passed, passed};
+ghost use Rattle.ad_edition.specs.declared.receipts.Refused.TheVariants as refusals;
 ghost use Rattle.ad_documents.specs.Causes.{IsPassedBy, IsUnfitFor};
 ghost use Rattle.ad_documents.specs.Output.{IsOntology};
 
@@ -48,17 +49,19 @@ fn begin_first(alloc: Global, keys: RandomState, batch: &Batch) -> Result<Draft,
         Ok(first) => first,
         Err(Memory) => return Err(Unread::Memory),
     };
-    match first.begin(alloc, batch) {
+    match first.begin(alloc, batch, None) {
         Ok(draft) => Ok(draft),
         Err(cause) => Err(unread_by(cause)),
     }
 }
 
-// Why a document's ontology was not taken.
+// Why a document's ontology was not taken, where no edition was expected.
 fn unread_by(cause: Refused) -> Unread
+    requires unmoved { (edition : ℕ) → cause ≡ refusals.Moved edition → ⊥ }
     ensures { (first : Option Passed) (refusal : Refusal) → IsRefusedBy first 0 cause → result ≡ Unread.Refused refusal → IsPassedBy first refusal }
 {
     match cause {
+        Refused::Moved { .. } => unreachable!(),
         Refused::Limit {
             edition,
             which,

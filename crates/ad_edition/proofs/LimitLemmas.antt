@@ -1,5 +1,6 @@
--- The first limit that is passed, from the counts that are above a limit or within it.
+-- The first limit that is passed, from the counts that are above a limit or within it; and what else hinders an edit.
 use Rattle.std.proofs.Common.{◌≡◌, ℕ, ◌+◌, ◌<◌, ◌≤◌, true, false, cond, List, length, nat_lt, Option, None, Some, refl, ap, sym, ◌∙◌, arith, subst}
+use Rattle.std.proofs.lemmas.Bool.{false≢true}
 use Rattle.ad_base.specs.declared.limits.Which.{Which}
 use Rattle.ad_base.specs.declared.limits.Which.TheVariants as which
 use Rattle.ad_base.specs.declared.limits.Limits.{Limits}
@@ -8,7 +9,7 @@ use Rattle.ad_syntax_laws.specs.OntologyModule.{logical}
 use Rattle.ad_numbered.specs.Numbered.{entities_of}
 use Rattle.ad_edition.specs.declared.receipts.Refused.{Refused}
 use Rattle.ad_edition.specs.declared.receipts.Refused.TheVariants as refusals
-use Rattle.ad_edition.specs.Limit.{Passed, first_of, passed, passed_by_size, document_count, IsRefusedBy, HasManyEntities}
+use Rattle.ad_edition.specs.Limit.{Passed, first_of, passed, passed_by_size, document_count, IsRefusedBy, IsHinderedBy, HasManyEntities}
 
 above : (limit count : ℕ) → limit < count → nat_lt limit count ≡ true
 above limit count l = grind arith
@@ -41,6 +42,7 @@ module _ (l : Limits) (number : ℕ) (axioms : List Noted) where
           ∙ over which.Entities l.entities count (passed_by_size l number (document_count axioms)) many.2
           ∙ ap (λ x. Some (record { which = x; count = count })) (sym many.1),
     )
+    by_entities (refusals.Moved edition) many = absurd many
     by_entities refusals.Memory many = tt
 
     module _ (named : length (entities_of (logical axioms)) ≤ l.entities) where
@@ -63,3 +65,9 @@ editions_refused l number bytes next cause small is high named = subst (IsRefuse
   under which.Bytes l.bytes bytes (first_of which.Editions l.editions (number + 1) None) small
       ∙ ap (λ n. first_of which.Editions l.editions n None) (sym is) ∙ over which.Editions l.editions next None high,
 )
+
+-- where no edition is expected, what hinders an edit is what refuses it
+pub unhindered : (first : Option Passed) (number : ℕ) (cause : Refused) → IsHinderedBy None first number cause → IsRefusedBy first number cause
+unhindered first number (refusals.Limit edition which count) hindered = hindered.1
+unhindered first number (refusals.Moved edition) hindered = absurd (false≢true hindered.1)
+unhindered first number refusals.Memory hindered = tt

@@ -17,7 +17,7 @@ use Rattle.ad_slots.specs.Places.{is_held, held_symbols, is_held_local}
 use Rattle.ad_numbered.specs.Numbered.{InSlots, IsNumbered, in_slots_code, order_of}
 use Rattle.ad_decompose.specs.Decomposed.{Decomposed, IsDecomposition}
 use Rattle.ad_decompose.specs.contracts.decomposition.Decomposition as found_row
-use Rattle.ad_edition.specs.Limit.{IsRefusedBy, Passed, passed}
+use Rattle.ad_edition.specs.Limit.{IsHinderedBy, Passed, passed}
 use Rattle.ad_edition.specs.Log.{Logged, Shown, defined_by}
 use Rattle.ad_edition.specs.declared.receipts.Receipt.{Receipt}
 use Rattle.ad_edition.specs.declared.receipts.Refused.{Refused}
@@ -102,9 +102,10 @@ drafted edition batch = record { next = next_edition edition batch; counts = cou
 abbrev pub passed_by : Limited → List Op → Option Passed
 passed_by edition batch = passed edition.limits edition.shown.number (applied edition.shown.axioms batch)
 
--- why a batch is refused on this edition: it passes a limit, the first of them, or memory is wanting
-abbrev pub IsRefusal : Limited → List Op → Refused → Type 0
-IsRefusal edition batch cause = IsRefusedBy (passed_by edition batch) edition.shown.number cause
+-- why a batch that may expect an edition is refused on this one: another was expected, or it passes a limit, the first of
+-- them, or memory is wanting
+abbrev pub IsRefusal : Limited → Option ℕ → List Op → Refused → Type 0
+IsRefusal edition expected batch cause = IsHinderedBy expected (passed_by edition batch) edition.shown.number cause
 
 -- the receipt of an edit that made the edition with this number
 abbrev pub receipt_of : ℕ → Counts → Receipt

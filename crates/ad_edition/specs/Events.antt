@@ -1,28 +1,29 @@
 -- The events of a machine: an edit of a session, and a session's entering of the whole log.
-use Rattle.std.specs.Prelude.{ℕ, ◌<◌, List, [], ◌∷◌, Option, None, Some, length, replicate, slice_set}
+use Rattle.std.specs.Prelude.{ℕ, ◌<◌, Bool, true, false, List, [], ◌∷◌, Option, None, Some, length, replicate, slice_set}
 use Rattle.ad_base.specs.declared.limits.Limits.{Limits}
 use Rattle.ad_tree.specs.declared.edits.Op.{Op}
-use Rattle.ad_edition.specs.Limit.{Passed}
+use Rattle.ad_edition.specs.Limit.{Passed, is_moved}
 use Rattle.ad_edition.specs.Edition.{Limited, first_of_all, next_edition, passed_by}
 use Rattle.ad_edition.specs.State.{State, at_first, after_commit, after_enter, first_passed}
 use Rattle.ad_edition.specs.Editions.{AreEditionsOf}
 
 pub data Event : Type 0 where
-  commits : (session : ℕ) (batch : List Op) → Event
+  commits : (session : ℕ) (batch : List Op) (expected : Option ℕ) → Event
   enters : (session : ℕ) → Event
 
 -- both may come at any time, of any session
 abbrev pub IsEnabled : State → Event → Type 0
-IsEnabled machine (Event.commits session batch) = session < length machine.entered
+IsEnabled machine (Event.commits session batch expected) = session < length machine.entered
 IsEnabled machine (Event.enters session) = session < length machine.entered
 
--- what was there stays where a limit is passed
-abbrev pub unless_passed : {X : Type 0} → Option Passed → X → X → X
-unless_passed None old new = new
-unless_passed (Some passed) old new = old
+-- what was there stays where another edition was expected, or a limit is passed
+abbrev pub unless_hindered : {X : Type 0} → Bool → Option Passed → X → X → X
+unless_hindered true first old new = old
+unless_hindered false None old new = new
+unless_hindered false (Some passed) old new = old
 
 abbrev pub after : State → Event → State
-after machine (Event.commits session batch) = unless_passed (first_passed machine batch) machine (after_commit machine session batch)
+after machine (Event.commits session batch expected) = unless_hindered (is_moved expected (length machine.log)) (first_passed machine batch) machine (after_commit machine session batch)
 after machine (Event.enters session) = after_enter machine session
 
 abbrev pub after_all : State → List Event → State
@@ -42,7 +43,7 @@ pub record Editions : Type 0 where
 -- The editions, each made of the one before: an edit applies its batch to the newest one, and a session that enters
 -- takes the newest one.
 abbrev pub next_editions : Editions → Event → Editions
-next_editions editions (Event.commits session batch) = unless_passed (passed_by editions.newest batch) editions (record editions { newest = next_edition editions.newest batch })
+next_editions editions (Event.commits session batch expected) = unless_hindered (is_moved expected editions.newest.shown.number) (passed_by editions.newest batch) editions (record editions { newest = next_edition editions.newest batch })
 next_editions editions (Event.enters session) = record editions { seen = slice_set editions.seen session editions.newest }
 
 abbrev pub all_editions : Editions → List Event → Editions

@@ -1,5 +1,5 @@
--- The first limit that an edit passes, with the count that passes it.
-use Rattle.std.specs.Prelude.{◌≡◌, ℕ, ◌+◌, ◌-◌, ◌^◌, ◌<◌, cond, List, Option, None, Some, nat_lt, length, min}
+-- What hinders an edit: another edition was expected, or the first limit that it passes, with the count that passes it.
+use Rattle.std.specs.Prelude.{◌≡◌, ℕ, ◌+◌, ◌-◌, ◌^◌, ◌<◌, cond, Bool, false, not, IsFalse, IsTrue, List, Option, None, Some, nat_eq, nat_lt, length, min}
 use Rattle.ad_base.specs.declared.limits.Which.{Which}
 use Rattle.ad_base.specs.declared.limits.Which.TheVariants as limits
 use Rattle.ad_base.specs.declared.limits.Limits.{Limits}
@@ -38,10 +38,24 @@ passed l number after =
 -- comes at any time
 abbrev pub IsRefusedBy : Option Passed → ℕ → Refused → Type 0
 IsRefusedBy first number (refusals.Limit edition which count) = (edition ≡ number) × (first ≡ Some (record { which = which; count = count }))
+IsRefusedBy first number (refusals.Moved edition) = ⊥
 IsRefusedBy first number refusals.Memory = Unit {0}
 
 -- the entities of this ontology are above the limit, so many; want of memory comes at any time
 abbrev pub HasManyEntities : Limits → ℕ → List Noted → Refused → Type 0
 HasManyEntities l number after (refusals.Limit edition which count) =
     (edition ≡ number) × (which ≡ limits.Entities) × (l.entities < count) × (count ≡ length (entities_of (logical after)))
+HasManyEntities l number after (refusals.Moved edition) = ⊥
 HasManyEntities l number after refusals.Memory = Unit {0}
+
+-- whether an edition is expected, and it isn't the one of this number
+abbrev pub is_moved : Option ℕ → ℕ → Bool
+is_moved None number = false
+is_moved (Some expected) number = not (nat_eq expected number)
+
+-- Why an edit that may expect an edition is refused on the edition of this number, where this is the first limit that is
+-- passed: another edition was expected, and only else the limit; want of memory comes at any time.
+abbrev pub IsHinderedBy : Option ℕ → Option Passed → ℕ → Refused → Type 0
+IsHinderedBy expected first number (refusals.Moved edition) = (edition ≡ number) × IsTrue (is_moved expected number)
+IsHinderedBy expected first number (refusals.Limit edition which count) = IsFalse (is_moved expected number) × IsRefusedBy first number (refusals.Limit edition which count)
+IsHinderedBy expected first number refusals.Memory = Unit {0}

@@ -71,9 +71,10 @@ after_attend machine session = record machine { session = session; looks = 0 }
 abbrev pub first_passed : State → List Op → Option Passed
 first_passed machine batch = passed_by (newest_of machine) batch
 
--- why a batch is refused: it passes a limit on the newest edition, the first of them, or memory is wanting
-abbrev pub IsRefusalOf : State → List Op → Refused → Type 0
-IsRefusalOf machine batch cause = IsRefusal (newest_of machine) batch cause
+-- why a batch that may expect an edition is refused: another was expected than the newest, or it passes a limit on that, the
+-- first of them, or memory is wanting
+abbrev pub IsRefusalOf : State → Option ℕ → List Op → Refused → Type 0
+IsRefusalOf machine expected batch cause = IsRefusal (newest_of machine) expected batch cause
 
 -- the receipt of an accepted edit: the new edition's number, and the four counts on the edition before
 abbrev pub receipt_after : State → List Op → Receipt

@@ -57,6 +57,7 @@ impl Model for Edition {
 impl Edition {
     ghost use Rattle.ad_syntax_laws.specs.OntologyModule.{is_logical_axiom, logical, values};
     ghost use Rattle.ad_edition.specs.Edition.{drafted, first_of_all, limited_of, passed_by, IsEdition, IsRefusal};
+    ghost use Rattle.ad_edition.specs.Limit.{IsRefusedBy, is_moved};
 
     /// The first edition: number 0, without axioms. Names are hashed with these keys, in this and the later editions.
     pub fn empty(alloc: Global, keys: RandomState, limits: Limits) -> Result<Edition, Memory>
@@ -221,12 +222,42 @@ impl Edition {
         self.found.covers(kind)
     }
 
-    /// The next edition by this batch, to be finished, if no limit is passed. Limits are looked at in the order axioms,
-    /// entities, bytes, editions.
-    pub fn begin(&self, alloc: Global, batch: &Batch) -> Result<Draft, Refused>
+    /// The next edition by this batch, to be finished, if this edition or none is expected and no limit is passed. Limits
+    /// are looked at in the order axioms, entities, bytes, editions.
+    pub fn begin(
+        &self,
+        alloc: Global,
+        batch: &Batch,
+        expected: Option<u64>,
+    ) -> Result<Draft, Refused>
+        ensures draft { IfOk result (λ draft. draft ≡ drafted (limited_of self.now) batch.now) }
+        ensures expected { IsOk result → IsFalse (is_moved expected self.now.shown.number) }
+        ensures within { IsOk result → passed_by (limited_of self.now) batch.now ≡ None }
+        ensures refused { IfErr result (IsRefusal (limited_of self.now) expected batch.now) }
+    {
+        if self.is_moved(expected) {
+            return Err(Refused::Moved {
+                edition: self.number,
+            });
+        }
+        self.begin_unmoved(alloc, batch)
+    }
+
+    // Whether an edition is expected, and it isn't this one.
+    fn is_moved(&self, expected: Option<u64>) -> bool
+        ensures { result ≡ is_moved expected self.now.shown.number }
+    {
+        match expected {
+            Some(expected) => expected != u64::from(self.number),
+            None => false,
+        }
+    }
+
+    // The next edition by this batch, to be finished, if no limit is passed.
+    fn begin_unmoved(&self, alloc: Global, batch: &Batch) -> Result<Draft, Refused>
         ensures draft { IfOk result (λ draft. draft ≡ drafted (limited_of self.now) batch.now) }
         ensures within { IsOk result → passed_by (limited_of self.now) batch.now ≡ None }
-        ensures refused { IfErr result (IsRefusal (limited_of self.now) batch.now) }
+        ensures refused { IfErr result (IsRefusedBy (passed_by (limited_of self.now) batch.now) self.now.shown.number) }
     {
         let steps = steps_of(alloc, batch.ops())?;
         let outcome = apply_steps(alloc, self.axioms(), steps.as_slice())?;

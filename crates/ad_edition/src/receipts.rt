@@ -13,10 +13,13 @@ pub struct Receipt {
     pub absent: u32,
 }
 
-/// Why an edit was refused: by the first limit that its ontology passes, on the edition of this number,
-/// with the count that passes it; or for want of memory.
+/// Why an edit was refused on the edition of this number: another was expected; or its ontology passes a limit, the first
+/// of them, with the count that passes it; or for want of memory.
 #[derive(Clone, Copy, Debug, PartialEq, Eq, Hash)]
 pub enum Refused {
+    Moved {
+        edition: u32,
+    },
     Limit {
         edition: u32,
         which: Which,

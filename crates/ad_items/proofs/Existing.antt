@@ -1,103 +1,13 @@
 -- Input is split in some way: what it begins with is found, and then what the rest begins with.
-use Rattle.std.proofs.Common.{◌≡◌, ◌≢◌, ◌⊎◌, inl, inr, ℕ, zero, suc, ◌+◌, ◌^◌, ◌<◌, ◌≤◌, List, [], ◌∷◌, ◌++◌, Option, None, Some, codes, length, take, drop, get_or, refl, sym, ◌∙◌, ap, subst, arith, append_assoc, length-append}
+use Rattle.std.proofs.Common.{◌≡◌, ◌≢◌, ◌⊎◌, inl, inr, ℕ, zero, suc, ◌+◌, ◌<◌, ◌≤◌, List, [], ◌∷◌, ◌++◌, Option, None, Some, length, take, drop, refl, sym, ◌∙◌, ap, subst, arith, append_assoc, length-append}
 use Rattle.std.specs.Prelude.{flat_map}
-use Rattle.std.specs.List.{EachIndex}
-use Rattle.std.specs.Char.{IsAsciiDigit}
-use Rattle.std.specs.Fmt.{decimal}
-use Rattle.std.specs.Str.Parse.{digits_value}
 use Rattle.std.proofs.lemmas.Bool.{cases_eq, cases_lt}
-use Rattle.std.proofs.lemmas.List.{append-nil, append_cancel_left, length-take, take-append-drop, take-append-le, take_at}
-use Rattle.ad_base.specs.declared.limits.Kind.TheVariants as kinds
-use Rattle.ad_base.specs.Decimal.{IsNumber, IsPlainDecimal}
-use Rattle.ad_base.proofs.Numbers.{number_is_plain, number_is_short, plain_is_number}
+use Rattle.std.proofs.lemmas.List.{append-nil, length-take, take-append-drop, take-append-le}
 use Rattle.ad_request.specs.declared.request.Request.{Request}
 use Rattle.ad_request.specs.declared.request.Request.TheVariants.{Load, Edit, Module, Genuine, Atoms, Atom, Export, Stat, Quit}
 use Rattle.ad_request.specs.Requests.{Asks, payload_size, request_line}
-use Rattle.ad_request.proofs.LineLemmas.{asks_nothing}
-use Rattle.ad_items.specs.Items.{Bounds, Item, item, item_bytes, IsUnbroken, IsShort, IsItem, Ending, quit, closed, cut, too_long, spent, IsLongLine, Closes, InTime, Items, Split, split, SplitsAlways}
-
--- a text is another one, or isn't
-same_text : (a b : List ℕ) → (a ≡ b) ⊎ (a ≡ b → ⊥)
-same_text [] [] = inl refl
-same_text [] (y ∷ b) = inr (λ e. let count : 0 ≡ suc (length b) = ap length e in omega (arith, count))
-same_text (x ∷ a) [] = inr (λ e. let count : suc (length a) ≡ 0 = ap length e in omega (arith, count))
-same_text (x ∷ a) (y ∷ b) = elim (cases_eq x y) [
-  | inl e ↦ elim (same_text a b) [ inl f ↦ inl (λ i. e i ∷ f i) | inr unlike ↦ inr (λ h. unlike (ap (drop 1) h)) ]
-  | inr unlike ↦ inr (λ h. unlike (ap (λ (l : List ℕ). get_or l 0 0) h))
-]
-
--- a byte is a digit, or isn't
-is_digit : (b : ℕ) → IsAsciiDigit b ⊎ (IsAsciiDigit b → ⊥)
-is_digit b = elim (cases_lt b 48) [
-  | inl low ↦ inr (λ d. omega (arith, low, d.0))
-  | inr from ↦ elim (cases_lt 57 b) [ inl high ↦ inr (λ d. omega (arith, high, d.1)) | inr to ↦ inl (from, to) ]
-]
-
-each_digit : (b : ℕ) (bs : List ℕ) → IsAsciiDigit b → EachIndex bs (λ i. IsAsciiDigit (get_or bs i 0)) → (i : ℕ) → i < length (b ∷ bs) → IsAsciiDigit (get_or (b ∷ bs) i 0)
-each_digit b bs d rest zero l = d
-each_digit b bs d rest (suc i) l = rest i (omega arith)
-
-are_digits : (text : List ℕ) → EachIndex text (λ i. IsAsciiDigit (get_or text i 0)) ⊎ (EachIndex text (λ i. IsAsciiDigit (get_or text i 0)) → ⊥)
-are_digits [] = inl (λ i l. absurd (omega arith))
-are_digits (b ∷ bs) = elim (is_digit b) [
-  | inl d ↦ elim (are_digits bs) [ inl rest ↦ inl (each_digit b bs d rest) | inr unlike ↦ inr (λ all. unlike (λ i l. all (suc i) (omega arith))) ]
-  | inr unlike ↦ inr (λ all. unlike (all 0 (omega arith)))
-]
-
-is_plain : (text : List ℕ) → IsPlainDecimal text ⊎ (IsPlainDecimal text → ⊥)
-is_plain text = elim (are_digits text) [
-  | inr unlike ↦ inr (λ p. unlike p.digits)
-  | inl digits ↦ elim (cases_lt 0 (length text)) [
-    | inr none ↦ inr (λ p. let some : 0 < length text = p.some in omega (arith, none))
-    | inl some ↦ elim (cases_eq (length text) 1) [
-      | inl one ↦ inl (record { digits = digits; some = some; shortest = λ e. one })
-      | inr more ↦ elim (cases_eq (get_or text 0 0) 48) [
-        | inl zeroed ↦ inr (λ p. more (p.shortest zeroed))
-        | inr other ↦ inl (record { digits = digits; some = some; shortest = λ e. absurd (other e) })
-      ]
-    ]
-  ]
-]
-
--- a text is a number, or isn't
-is_number : (text : List ℕ) → ((n : ℕ) × IsNumber text n) ⊎ ((n : ℕ) → IsNumber text n → ⊥)
-is_number text = elim (cases_lt 10 (length text)) [
-  | inl long ↦ inr (λ n h. omega (arith, long, number_is_short text n h))
-  | inr short ↦ elim (is_plain text) [ inl p ↦ inl (digits_value 10 text, plain_is_number text p short) | inr unlike ↦ inr (λ n h. unlike (number_is_plain text n h)) ]
-]
-
--- words with a number behind them
-numbered : (words line : List ℕ) → ((n : ℕ) × (n < 10 ^ 10) × (line ≡ words ++ decimal n)) ⊎ ((n : ℕ) → n < 10 ^ 10 → line ≡ words ++ decimal n → ⊥)
-numbered words line = elim (same_text (take (length words) line) words) [
-  | inr unlike ↦ inr (λ n small e. unlike (ap (take (length words)) e ∙ take_at words (decimal n) (length words) refl))
-  | inl front ↦ (
-      let rest = drop (length words) line in
-      let whole : line ≡ words ++ drop (length words) line = sym (take-append-drop (length words) line) ∙ ap (λ t. t ++ drop (length words) line) front in
-      elim (is_number rest) [
-        | inl h ↦ inl (h.0, h.1.small, whole ∙ ap (λ t. words ++ t) h.1.spelled)
-        | inr none ↦ inr (λ n small e. none n (record { spelled = append_cancel_left words rest (decimal n) (sym whole ∙ e); small = small }))
-      ])
-]
-
--- each line asks for something, or for nothing
-record Asking (line : List ℕ) : Type 0 where
-  asked : Option Request
-  asks : Asks line asked
-
-asking : (line : List ℕ) → Asking line
-asking line = elim (same_text line (codes "EXPORT")) [
-  | inl e ↦ record { asked = Some Export; asks = (tt, e) }
-  | inr export ↦ elim (same_text line (codes "QUIT")) [
-    | inl e ↦ record { asked = Some Quit; asks = (tt, e) }
-    | inr quits ↦ elim (numbered (codes "EDIT ") line) [
-      | inl e ↦ record { asked = Some (Edit e.0); asks = (e.1, e.2) }
-      | inr edits ↦ elim (numbered (codes "MODULE bottom ") line) [
-        | inl e ↦ record { asked = Some (Module kinds.Bottom e.0); asks = (e.1, e.2) }
-        | inr modules ↦ record { asked = None; asks = asks_nothing line export quits edits modules }
-      ]
-    ]
-  ]
-]
+use Rattle.ad_request.proofs.Asking.{asking}
+use Rattle.ad_items.specs.Items.{Bounds, Item, item, item_bytes, IsUnbroken, IsShort, IsItem, Ending, quit, closed, cut, too_long, spent, Closes, InTime, Items, Split, split, SplitsAlways}
 
 -- the first line, or none
 record ALine (bytes : List ℕ) : Type 0 where
@@ -160,7 +70,7 @@ no_line bounds n (b ∷ bytes) more unbroken short = record {
 
 quits_or_not : (r : Request) → (r ≡ Quit) ⊎ (Some r ≢ Some Quit)
 quits_or_not (Load n) = inr (λ e. cc)
-quits_or_not (Edit n) = inr (λ e. cc)
+quits_or_not (Edit n i) = inr (λ e. cc)
 quits_or_not (Module k n) = inr (λ e. cc)
 quits_or_not (Genuine k n) = inr (λ e. cc)
 quits_or_not (Atoms k) = inr (λ e. cc)

@@ -78,7 +78,7 @@ data First : Type 0 where
 abbrev is_quit : Option Request → Bool
 is_quit None = false
 is_quit (Some (Load n)) = false
-is_quit (Some (Edit n)) = false
+is_quit (Some (Edit n i)) = false
 is_quit (Some (Module k n)) = false
 is_quit (Some (Genuine k n)) = false
 is_quit (Some (Atoms k)) = false
@@ -90,7 +90,7 @@ is_quit (Some Quit) = true
 no_quit : (asked : Option Request) → asked ≢ Some Quit → is_quit asked ≡ false
 no_quit None h = refl
 no_quit (Some (Load n)) h = refl
-no_quit (Some (Edit n)) h = refl
+no_quit (Some (Edit n i)) h = refl
 no_quit (Some (Module k n)) h = refl
 no_quit (Some (Genuine k n)) h = refl
 no_quit (Some (Atoms k)) h = refl

@@ -8,6 +8,7 @@ ghost use Rattle.ad_items.specs.Next.{IsNext, NextCause};
 use crate::line::{Line, LineEnd, read_line};
 use crate::payload::{PayloadEnd, read_payload};
 use ad_base::Limits;
+use ad_gate::{Gate, Point};
 use ad_io::Source;
 use ad_request::{Request, read_request};
 use std::alloc::Global;
@@ -38,13 +39,24 @@ pub enum Next {
     Failed,
 }
 
-/// Reads the next item, or the end, and no byte behind it.
-pub fn read_item<S: Source>(alloc: Global, source: &mut S, line: &mut Line, limits: Limits) -> Next
+/// Reads the next item, or the end, and no byte behind it. Where the line was read it passes the gate, before the payload
+/// is read.
+pub fn read_item<S: Source, G: Gate>(
+    alloc: Global,
+    source: &mut S,
+    line: &mut Line,
+    limits: Limits,
+    gate: &G,
+    point: Point,
+) -> Next
     ensures next { IsNext (bounds_of limits) (S.left source.old) (S.left source.new) result }
     ensures cause { NextCause (S.faults source.old) (S.faults source.new) result }
 {
     match read_line(source, line) {
-        LineEnd::Whole => read_behind(alloc, source, line.bytes(), limits),
+        LineEnd::Whole => {
+            gate.pass(point);
+            read_behind(alloc, source, line.bytes(), limits)
+        }
         LineEnd::Closed => Next::Closed,
         LineEnd::Cut => Next::Cut,
         LineEnd::TooLong => Next::TooLong,

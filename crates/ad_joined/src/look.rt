@@ -14,7 +14,7 @@ use ad_extract::take;
 use ad_theory::{Tally, Universe};
 
 // Whether an axiom is to be taken: it isn't taken yet, and isn't local for what was reached.
-fn is_needed<U: Universe>(
+pub(crate) fn is_needed<U: Universe>(
     universe: &U,
     side: Side,
     slot: u32,

@@ -1,15 +1,21 @@
-ghost use Rattle.std.specs.Prelude.{◌≡◌, ◌≤◌, ◌<◌, ◌+◌, ◌^◌, ◌&&◌, ℕ, [], IsTrue, IfOk, OnOk, length, map, slice_index_or};
+ghost use Rattle.std.specs.Prelude.{◌≡◌, ◌≤◌, ◌<◌, ◌+◌, ◌^◌, ◌&&◌, ℕ, Bool, List, [], IsTrue, IfOk, OnOk, length, map, slice_index_or};
 ghost use Rattle.std.specs.Arc.{arc_value};
 ghost use Rattle.std.specs.List.{All, AllZip};
 ghost use Rattle.ad_base.specs.declared.limits.Kind.TheVariants.{Star};
+ghost use Rattle.ad_base.specs.declared.limits.Side.{Side};
 ghost use Rattle.ad_base.specs.declared.limits.Side.TheVariants.{Bottom, Top};
 ghost use Rattle.ad_base.specs.Limits.{AreWithinStandard};
 ghost use Rattle.ad_bits.specs.Rows.{has};
 ghost use Rattle.ad_groups.specs.GenuineRows.{IsGenuineRow};
+ghost use Rattle.ad_joined.specs.Known.{IsPart};
 ghost use Rattle.ad_joined.specs.Searched.{IsSideRow};
-ghost use Rattle.ad_theory.specs.Numbers.{among, logic_of, AreSizesOf};
+ghost use Rattle.ad_joined.specs.Stars.{AreStars};
+ghost use Rattle.ad_theory.specs.Alternation.{IsAboveStar};
+ghost use Rattle.ad_theory.specs.Module.{IsStar};
+ghost use Rattle.ad_theory.specs.Numbers.{among, logic_of, AreSizesOf, IsNumberedModule};
 ghost use Rattle.ad_theory.specs.Tally.{IsRaisedBy};
 
+use crate::known::Known;
 use crate::whole::copied;
 use ad_base::{Limits, Memory};
 use ad_bits::Row;
@@ -19,10 +25,13 @@ use ad_theory::{Extractor, Tally, Universe, empty_row};
 use std::alloc::Global;
 use std::sync::Arc;
 
-// What finds star modules within what the modules of the two sides have in common, with the room that it needs.
+// What finds star modules within what the modules of the two sides have in common, with the room that it needs, and a
+// star module that is known.
 #[derive(Drop)]
 struct Stars {
     starred: Starred<Queue>,
+    known: Known,
+    pending: Vec<u32>,
     seed: Row,
     closure: Row,
     start: Row,
@@ -60,14 +69,13 @@ impl Stars {
     // Takes the memory that finding star modules needs.
     fn new(alloc: Global, limits: &Limits) -> Result<Stars, Memory>
         requires { AreWithinStandard limits.now }
-        ensures starred { IfOk result (λ stars. ⟦<Starred<Queue> as Extractor>⟧.made_for stars.starred ≡ limits.now) }
-        ensures seed { IfOk result (λ stars. length stars.seed ≡ limits.now.entities) }
-        ensures closure { IfOk result (λ stars. length stars.closure ≡ limits.now.entities) }
-        ensures start { IfOk result (λ stars. length stars.start ≡ limits.now.axioms) }
-        ensures out { IfOk result (λ stars. length stars.out ≡ limits.now.axioms) }
+        ensures { IfOk result (λ stars. (symbols_of : ℕ → List ℕ) (local : Side → (ℕ → Bool) → ℕ → Bool) (live : ℕ → Bool) →
+            AreStars symbols_of local live limits.now.axioms limits.now.entities stars) }
     {
         Ok(Stars {
             starred: Starred::make(alloc, limits)?,
+            known: Known::nothing(alloc, limits.axioms, limits.entities)?,
+            pending: Vec::with_capacity(alloc, limits.entities as usize)?,
             seed: empty_row(alloc, limits.entities)?,
             closure: empty_row(alloc, limits.entities)?,
             start: empty_row(alloc, limits.axioms)?,
@@ -75,37 +83,39 @@ impl Stars {
         })
     }
 
-    // Finds the star module for the signature of the slot's axiom, whose modules on the two sides these are.
-    fn find<U: Universe>(
-        &mut self,
-        universe: &U,
-        slot: u32,
-        bottom: &Row,
-        top: &Row,
-        tally: &mut Tally,
-    )
-        requires limits { AreSizesOf (⟦<Starred<Queue> as Extractor>⟧.made_for self.old.starred) (U.slot_count universe.now) (U.symbol_count universe.now) }
+    // Puts the signature of the slot's axiom into `seed`, and what its modules on the two sides have in common into
+    // `start`.
+    fn begin<U: Universe>(&mut self, universe: &U, slot: u32, bottom: &Row, top: &Row)
+        requires stars { AreStars (U.symbols_of universe.now) (U.is_local universe.now) (U.is_live universe.now)
+            (U.slot_count universe.now) (U.symbol_count universe.now) self.old }
         requires live { IsTrue (U.is_live universe.now slot) }
-        requires seed { length self.old.seed ≡ U.symbol_count universe.now }
-        requires closure { length self.old.closure ≡ U.symbol_count universe.now }
-        requires start { length self.old.start ≡ U.slot_count universe.now }
-        requires out { length self.old.out ≡ U.slot_count universe.now }
         requires bottom { IsSideRow (logic_of (U.symbols_of universe.now) (U.is_local universe.now Bottom)) (U.is_live universe.now)
             (U.slot_count universe.now) slot bottom.now }
         requires top { IsSideRow (logic_of (U.symbols_of universe.now) (U.is_local universe.now Top)) (U.is_live universe.now)
             (U.slot_count universe.now) slot top.now }
-        ensures found { IsGenuineRow (U.symbols_of universe.now) (U.is_local universe.now) (U.is_live universe.now)
-            (U.slot_count universe.now) Star slot self.new.out }
-        ensures limits { ⟦<Starred<Queue> as Extractor>⟧.made_for self.new.starred ≡ ⟦<Starred<Queue> as Extractor>⟧.made_for self.old.starred }
-        ensures seed { length self.new.seed ≡ U.symbol_count universe.now }
-        ensures closure { length self.new.closure ≡ U.symbol_count universe.now }
-        ensures start { length self.new.start ≡ U.slot_count universe.now }
-        ensures out { length self.new.out ≡ U.slot_count universe.now }
-        ensures counted { tally.old.tests ≤ tally.new.tests }
-        ensures runs { IsRaisedBy 1 tally.old.runs tally.new.runs }
+        ensures stars { AreStars (U.symbols_of universe.now) (U.is_local universe.now) (U.is_live universe.now)
+            (U.slot_count universe.now) (U.symbol_count universe.now) self.new }
+        ensures seed { has self.new.seed ≡ among (U.symbols_of universe.now slot) }
+        ensures above { IsAboveStar (logic_of (U.symbols_of universe.now) (U.is_local universe.now Bottom))
+            (logic_of (U.symbols_of universe.now) (U.is_local universe.now Top)) (has self.new.seed) (λ i. IsTrue (U.is_live universe.now i)) (has self.new.start) }
     {
         fill(&mut self.seed, universe.signature(slot));
         meet(&mut self.start, &mut self.out, bottom, top);
+    }
+
+    // Finds the star module for what is in `seed`.
+    fn find<U: Universe>(&mut self, universe: &U, tally: &mut Tally)
+        requires stars { AreStars (U.symbols_of universe.now) (U.is_local universe.now) (U.is_live universe.now)
+            (U.slot_count universe.now) (U.symbol_count universe.now) self.old }
+        requires above { IsAboveStar (logic_of (U.symbols_of universe.now) (U.is_local universe.now Bottom))
+            (logic_of (U.symbols_of universe.now) (U.is_local universe.now Top)) (has self.old.seed) (λ i. IsTrue (U.is_live universe.now i)) (has self.old.start) }
+        ensures stars { AreStars (U.symbols_of universe.now) (U.is_local universe.now) (U.is_live universe.now)
+            (U.slot_count universe.now) (U.symbol_count universe.now) self.new }
+        ensures found { IsNumberedModule Star (U.symbols_of universe.now) (U.is_local universe.now) (has self.old.seed)
+            (λ i. IsTrue (U.is_live universe.now i)) (has self.new.out) (has self.new.closure) }
+        ensures counted { tally.old.tests ≤ tally.new.tests }
+        ensures runs { IsRaisedBy 1 tally.old.runs tally.new.runs }
+    {
         self.starred.star_within(
             universe,
             &self.seed,
@@ -114,6 +124,149 @@ impl Stars {
             &mut self.closure,
             tally,
         );
+    }
+
+    // Finds the row of the slot's star module, which is known from then on where it is better.
+    fn anew<U: Universe>(
+        &mut self,
+        alloc: Global,
+        universe: &U,
+        slot: u32,
+        tally: &mut Tally,
+    ) -> Result<Arc<Row>, Memory>
+        requires stars { AreStars (U.symbols_of universe.now) (U.is_local universe.now) (U.is_live universe.now)
+            (U.slot_count universe.now) (U.symbol_count universe.now) self.old }
+        requires live { IsTrue (U.is_live universe.now slot) }
+        requires seed { has self.old.seed ≡ among (U.symbols_of universe.now slot) }
+        requires above { IsAboveStar (logic_of (U.symbols_of universe.now) (U.is_local universe.now Bottom))
+            (logic_of (U.symbols_of universe.now) (U.is_local universe.now Top)) (has self.old.seed) (λ i. IsTrue (U.is_live universe.now i)) (has self.old.start) }
+        ensures stars { OnOk result (AreStars (U.symbols_of universe.now) (U.is_local universe.now) (U.is_live universe.now)
+            (U.slot_count universe.now) (U.symbol_count universe.now) self.new) }
+        ensures found { IfOk result (λ row. IsGenuineRow (U.symbols_of universe.now) (U.is_local universe.now) (U.is_live universe.now)
+            (U.slot_count universe.now) Star slot (arc_value row)) }
+        ensures counted { tally.old.tests ≤ tally.new.tests }
+        ensures runs { OnOk result (IsRaisedBy 1 tally.old.runs tally.new.runs) }
+    {
+        self.find(universe, tally);
+        let row = shared(alloc, &self.out)?;
+        self.known.learn(slot, &row, &self.closure)?;
+        Ok(row)
+    }
+
+    // Whether the known module is its own module on both sides for what is in `seed`.
+    fn is_part<U: Universe>(&mut self, universe: &U, tally: &mut Tally) -> bool
+        requires stars { AreStars (U.symbols_of universe.now) (U.is_local universe.now) (U.is_live universe.now)
+            (U.slot_count universe.now) (U.symbol_count universe.now) self.old }
+        ensures stars { AreStars (U.symbols_of universe.now) (U.is_local universe.now) (U.is_live universe.now)
+            (U.slot_count universe.now) (U.symbol_count universe.now) self.new }
+        ensures seed { self.new.seed ≡ self.old.seed }
+        ensures start { self.new.start ≡ self.old.start }
+        ensures known { self.new.known ≡ self.old.known }
+        ensures part { IsTrue result → IsPart (U.symbols_of universe.now) (U.is_local universe.now) (U.is_live universe.now)
+            (has self.new.seed) (arc_value self.new.known.row) }
+        ensures counted { tally.old.tests ≤ tally.new.tests }
+        ensures runs { tally.new.runs ≡ tally.old.runs }
+    {
+        self.known.is_part(
+            universe,
+            &self.seed,
+            &self.start,
+            &mut self.pending,
+            &mut self.out,
+            &mut self.closure,
+            tally,
+        )
+    }
+
+    // The row of the known module, shared, where it is the slot's star module too: all symbols are those of its axioms.
+    fn again<U: Universe>(
+        &mut self,
+        universe: &U,
+        slot: u32,
+        tally: &mut Tally,
+    ) -> Result<Arc<Row>, Memory>
+        requires stars { AreStars (U.symbols_of universe.now) (U.is_local universe.now) (U.is_live universe.now)
+            (U.slot_count universe.now) (U.symbol_count universe.now) self.old }
+        requires live { IsTrue (U.is_live universe.now slot) }
+        requires seed { has self.old.seed ≡ among (U.symbols_of universe.now slot) }
+        requires part { IsPart (U.symbols_of universe.now) (U.is_local universe.now) (U.is_live universe.now)
+            (has self.old.seed) (arc_value self.old.known.row) }
+        requires all { (s : ℕ) → IsTrue (has self.old.seed s) → IsTrue (has self.old.known.closure s) }
+        ensures stars { OnOk result (AreStars (U.symbols_of universe.now) (U.is_local universe.now) (U.is_live universe.now)
+            (U.slot_count universe.now) (U.symbol_count universe.now) self.new) }
+        ensures found { IfOk result (λ row. IsGenuineRow (U.symbols_of universe.now) (U.is_local universe.now) (U.is_live universe.now)
+            (U.slot_count universe.now) Star slot (arc_value row)) }
+        ensures counted { tally.old.tests ≤ tally.new.tests }
+        ensures runs { OnOk result (IsRaisedBy 1 tally.old.runs tally.new.runs) }
+    {
+        tally.count_run();
+        let row = Arc::try_clone(&self.known.row)?;
+        self.known.add(slot);
+        Ok(row)
+    }
+
+    // Finds the star module for what is in `seed`, of which the known module is a part: the rest of it is the star module
+    // of the other axioms, for the symbols of both.
+    fn join<U: Universe>(&mut self, universe: &U, tally: &mut Tally)
+        requires stars { AreStars (U.symbols_of universe.now) (U.is_local universe.now) (U.is_live universe.now)
+            (U.slot_count universe.now) (U.symbol_count universe.now) self.old }
+        requires above { IsAboveStar (logic_of (U.symbols_of universe.now) (U.is_local universe.now Bottom))
+            (logic_of (U.symbols_of universe.now) (U.is_local universe.now Top)) (has self.old.seed) (λ i. IsTrue (U.is_live universe.now i)) (has self.old.start) }
+        requires part { IsPart (U.symbols_of universe.now) (U.is_local universe.now) (U.is_live universe.now)
+            (has self.old.seed) (arc_value self.old.known.row) }
+        ensures stars { AreStars (U.symbols_of universe.now) (U.is_local universe.now) (U.is_live universe.now)
+            (U.slot_count universe.now) (U.symbol_count universe.now) self.new }
+        ensures found { IsStar (logic_of (U.symbols_of universe.now) (U.is_local universe.now Bottom))
+            (logic_of (U.symbols_of universe.now) (U.is_local universe.now Top)) (has self.old.seed) (λ i. IsTrue (U.is_live universe.now i)) (has self.new.out) }
+        ensures counted { tally.old.tests ≤ tally.new.tests }
+        ensures runs { IsRaisedBy 1 tally.old.runs tally.new.runs }
+    {
+        self.known.take_out(&mut self.seed, &mut self.start);
+        self.starred.star_of_part(
+            universe,
+            &self.seed,
+            &self.start,
+            &mut self.out,
+            &mut self.closure,
+            tally,
+        );
+        self.known.add_to(&mut self.out);
+    }
+
+    // The row of the star module for the signature of the slot's axiom, whose modules on the two sides these are.
+    fn row<U: Universe>(
+        &mut self,
+        alloc: Global,
+        universe: &U,
+        slot: u32,
+        bottom: &Row,
+        top: &Row,
+        tally: &mut Tally,
+    ) -> Result<Arc<Row>, Memory>
+        requires stars { AreStars (U.symbols_of universe.now) (U.is_local universe.now) (U.is_live universe.now)
+            (U.slot_count universe.now) (U.symbol_count universe.now) self.old }
+        requires live { IsTrue (U.is_live universe.now slot) }
+        requires bottom { IsSideRow (logic_of (U.symbols_of universe.now) (U.is_local universe.now Bottom)) (U.is_live universe.now)
+            (U.slot_count universe.now) slot bottom.now }
+        requires top { IsSideRow (logic_of (U.symbols_of universe.now) (U.is_local universe.now Top)) (U.is_live universe.now)
+            (U.slot_count universe.now) slot top.now }
+        ensures stars { OnOk result (AreStars (U.symbols_of universe.now) (U.is_local universe.now) (U.is_live universe.now)
+            (U.slot_count universe.now) (U.symbol_count universe.now) self.new) }
+        ensures found { IfOk result (λ row. IsGenuineRow (U.symbols_of universe.now) (U.is_local universe.now) (U.is_live universe.now)
+            (U.slot_count universe.now) Star slot (arc_value row)) }
+        ensures counted { tally.old.tests ≤ tally.new.tests }
+        ensures runs { OnOk result (IsRaisedBy 1 tally.old.runs tally.new.runs) }
+    {
+        self.begin(universe, slot, bottom, top);
+        if !self.is_part(universe, tally) {
+            return self.anew(alloc, universe, slot, tally);
+        }
+        if self.known.has_all(&self.seed) {
+            return self.again(universe, slot, tally);
+        }
+        self.join(universe, tally);
+        let row = shared(alloc, &self.out)?;
+        Ok(row)
     }
 }
 
@@ -143,11 +296,8 @@ fn rows_by<U: Universe>(
     top: &[Arc<Row>],
     tally: &mut Tally,
 ) -> Result<Vec<Arc<Row>>, Memory>
-    requires limits { AreSizesOf (⟦<Starred<Queue> as Extractor>⟧.made_for stars.old.starred) (U.slot_count universe.now) (U.symbol_count universe.now) }
-    requires seed { length stars.old.seed ≡ U.symbol_count universe.now }
-    requires closure { length stars.old.closure ≡ U.symbol_count universe.now }
-    requires start { length stars.old.start ≡ U.slot_count universe.now }
-    requires out { length stars.old.out ≡ U.slot_count universe.now }
+    requires stars { AreStars (U.symbols_of universe.now) (U.is_local universe.now) (U.is_live universe.now)
+        (U.slot_count universe.now) (U.symbol_count universe.now) stars.old }
     requires live { All (λ slot. IsTrue (U.is_live universe.now slot)) slots.now }
     requires bottom { AllZip (IsSideRow (logic_of (U.symbols_of universe.now) (U.is_local universe.now Bottom)) (U.is_live universe.now)
         (U.slot_count universe.now)) slots.now (map (λ row. arc_value row) bottom.now) }
@@ -161,14 +311,14 @@ fn rows_by<U: Universe>(
 {
     let mut rows = Vec::with_capacity(alloc, slots.len())?;
     for at in 0..slots.len() {
-        stars.find(
+        let row = stars.row(
+            alloc,
             universe,
             slots[at],
             row_at(bottom, at),
             row_at(top, at),
             tally,
-        );
-        let row = shared(alloc, &stars.out)?;
+        )?;
         rows.push(row)?;
     }
     Ok(rows)

@@ -1,5 +1,5 @@
 -- The document by rows is the document of the module.
-use Rattle.std.proofs.Common.{◌≡◌, ℕ, Bool, true, false, cond, ◌||◌, IsTrue, IsFalse, List, [], ◌∷◌, Option, None, Some, is_some, map, refl, sym, ap, ◌∙◌, subst, inl, inr}
+use Rattle.std.proofs.Common.{◌≡◌, ℕ, Bool, true, false, ◌||◌, IsTrue, IsFalse, List, [], ◌∷◌, Option, None, Some, is_some, map, refl, sym, ap, ◌∙◌, subst, inl, inr}
 use Rattle.std.specs.List.{AllZip, filter, zip}
 use Rattle.ad_base.specs.declared.limits.Kind.{Kind}
 use Rattle.ad_bits.specs.Rows.{has}
@@ -10,11 +10,11 @@ use Rattle.ad_tree.specs.declared.axioms.Axiom.TheVariants as axioms
 use Rattle.ad_tree.specs.declared.axioms.Noted.{Noted}
 use Rattle.ad_tree.specs.declared.notes.Subject.TheVariants as subjects
 use Rattle.ad_theory.proofs.Members.{Has, either, not_both, filter_has}
-use Rattle.ad_syntax_laws.specs.ModuleDocument.{IsModuleDocumentOf, document_with, entities_about, goes_with, stands_in}
+use Rattle.ad_syntax_laws.specs.ModuleDocument.{IsModuleDocumentOf, entities_about, goes_with, stands_in}
 use Rattle.ad_syntax_laws.specs.OntologyLogic.{seed_test}
 use Rattle.ad_syntax_laws.specs.OntologyModule.{is_logical_axiom, logical}
 use Rattle.ad_codes.proofs.AxiomLemmas.{code_local}
-use Rattle.ad_flat.specs.Trees.{IsSameSeed, axioms_where, in_signatures}
+use Rattle.ad_flat.specs.Trees.{IsSameSeed, axioms_where}
 use Rattle.ad_flat.proofs.KindOfTreesLemmas.{kind_of_trees}
 use Rattle.ad_numbered.specs.Numbered.{InSlots, IsNumbered, given, number_of, order_of}
 use Rattle.ad_module_document.specs.Documents.{HoldModule, document_in, is_about, is_about_number, is_chosen}

@@ -15,20 +15,21 @@ use Rattle.ad_io.proofs.FlowLemmas.{goes_on, stops, stops_early}
 use Rattle.ad_tree.specs.declared.axioms.Noted.{Noted}
 use Rattle.ad_write.specs.Canonical.{canon_document, canon_line, document_foot, document_head}
 use Rattle.ad_syntax_laws.specs.OntologyModule.{values}
-use Rattle.ad_module_document.specs.Lines.{document_of, is_in, line_in}
-use Rattle.ad_module_document.specs.declared.found.Found.{Found}
+use Rattle.ad_numbered.specs.Numbered.{InSlots}
+use Rattle.ad_module_document.specs.Documents.{taken_of}
+use Rattle.ad_module_document.specs.Lines.{line_in}
 
 -- the axioms with their slots
-abbrev pub entries : Found → List (Noted × Option ℕ)
-entries found = zip found.ontology.now.axioms found.ontology.now.slots
+abbrev pub entries : InSlots → List (Noted × Option ℕ)
+entries ontology = zip ontology.axioms ontology.slots
 
 -- those of these that are in the document
-abbrev pub chosen_of : Found → List (Noted × Option ℕ) → List Noted
-chosen_of found es = map (λ p. p.0) (filter (λ p. is_in found p.0 p.1) es)
+abbrev pub chosen_of : (Noted → Option ℕ → Bool) → List (Noted × Option ℕ) → List Noted
+chosen_of takes es = map (λ p. p.0) (filter (λ p. takes p.0 p.1) es)
 
 -- those of the first n axioms that are in the document
-abbrev pub front_of : Found → ℕ → List Noted
-front_of found n = chosen_of found (take n (entries found))
+abbrev pub front_of : (Noted → Option ℕ → Bool) → InSlots → ℕ → List Noted
+front_of takes ontology n = chosen_of takes (take n (entries ontology))
 
 length-zip : {A B : Type 0} (xs : List A) (ys : List B) → length ys ≡ length xs → length (zip xs ys) ≡ length xs
 length-zip [] ys e = refl
@@ -41,10 +42,10 @@ get_or-zip (z ∷ xs) [] i x y l m = absurd (omega arith)
 get_or-zip (z ∷ xs) (w ∷ ys) zero x y l m = refl
 get_or-zip (z ∷ xs) (w ∷ ys) (suc i) x y l m = get_or-zip xs ys i x y (omega arith) (omega arith)
 
-chosen-append : (found : Found) (es fs : List (Noted × Option ℕ)) → chosen_of found (es ++ fs) ≡ chosen_of found es ++ chosen_of found fs
-chosen-append found es fs =
-    ap (λ l. map (λ p. p.0) l) (filter-append (λ p. is_in found p.0 p.1) es fs)
-    ∙ map-append (λ p. p.0) (filter (λ p. is_in found p.0 p.1) es) (filter (λ p. is_in found p.0 p.1) fs)
+chosen-append : (takes : Noted → Option ℕ → Bool) (es fs : List (Noted × Option ℕ)) → chosen_of takes (es ++ fs) ≡ chosen_of takes es ++ chosen_of takes fs
+chosen-append takes es fs =
+    ap (λ l. map (λ p. p.0) l) (filter-append (λ p. takes p.0 p.1) es fs)
+    ∙ map-append (λ p. p.0) (filter (λ p. takes p.0 p.1) es) (filter (λ p. takes p.0 p.1) fs)
 
 lines-append : (xs ys : List Noted) → flat_map canon_line (xs ++ ys) ≡ flat_map canon_line xs ++ flat_map canon_line ys
 lines-append xs ys = flat_map-append canon_line xs ys
@@ -53,56 +54,56 @@ one_or_none : (b : Bool) (e : Noted × Option ℕ) → flat_map canon_line (map 
 one_or_none true e = append-nil (canon_line e.0)
 one_or_none false e = refl
 
-chosen_one : (found : Found) (noted : Noted) (slot : Option ℕ) → flat_map canon_line (chosen_of found ((noted, slot) ∷ [])) ≡ line_in found noted slot
-chosen_one found noted slot = one_or_none (is_in found noted slot) (noted, slot)
+chosen_one : (takes : Noted → Option ℕ → Bool) (noted : Noted) (slot : Option ℕ) → flat_map canon_line (chosen_of takes ((noted, slot) ∷ [])) ≡ line_in takes noted slot
+chosen_one takes noted slot = one_or_none (takes noted slot) (noted, slot)
 
-module _ (found : Found) (long : length found.ontology.now.slots ≡ length found.ontology.now.axioms) where
+module _ (takes : Noted → Option ℕ → Bool) (ontology : InSlots) (long : length ontology.slots ≡ length ontology.axioms) where
   -- one more axiom
-  pub front_more : (i : ℕ) (noted : Noted) (slot : Option ℕ) → i < length found.ontology.now.axioms → noted ≡ get_or found.ontology.now.axioms i noted → slot ≡ get_or found.ontology.now.slots i None
-      → front_of found (i + 1) ≡ front_of found i ++ chosen_of found ((noted, slot) ∷ [])
+  pub front_more : (i : ℕ) (noted : Noted) (slot : Option ℕ) → i < length ontology.axioms → noted ≡ get_or ontology.axioms i noted → slot ≡ get_or ontology.slots i None
+      → front_of takes ontology (i + 1) ≡ front_of takes ontology i ++ chosen_of takes ((noted, slot) ∷ [])
   front_more i noted slot within axiom_at slot_at =
-      let here : get_or (entries found) i (noted, None) ≡ (noted, slot) =
-      get_or-zip found.ontology.now.axioms found.ontology.now.slots i noted None within (omega arith)
-      ∙ ap (λ a. (a, get_or found.ontology.now.slots i None)) (sym axiom_at) ∙ ap (λ s. (noted, s)) (sym slot_at) in
-      ap (λ l. chosen_of found l) (take_more (entries found) i (noted, None) (omega (arith, length-zip found.ontology.now.axioms found.ontology.now.slots long)) ∙ ap (λ e. take i (entries found) ++ e ∷ []) here)
-      ∙ chosen-append found (take i (entries found)) ((noted, slot) ∷ [])
+      let here : get_or (entries ontology) i (noted, None) ≡ (noted, slot) =
+      get_or-zip ontology.axioms ontology.slots i noted None within (omega arith)
+      ∙ ap (λ a. (a, get_or ontology.slots i None)) (sym axiom_at) ∙ ap (λ s. (noted, s)) (sym slot_at) in
+      ap (λ l. chosen_of takes l) (take_more (entries ontology) i (noted, None) (omega (arith, length-zip ontology.axioms ontology.slots long)) ∙ ap (λ e. take i (entries ontology) ++ e ∷ []) here)
+      ∙ chosen-append takes (take i (entries ontology)) ((noted, slot) ∷ [])
 
-  pub lines_more : (i : ℕ) (noted : Noted) (slot : Option ℕ) → i < length found.ontology.now.axioms → noted ≡ get_or found.ontology.now.axioms i noted → slot ≡ get_or found.ontology.now.slots i None
-      → flat_map canon_line (front_of found (i + 1)) ≡ flat_map canon_line (front_of found i) ++ line_in found noted slot
+  pub lines_more : (i : ℕ) (noted : Noted) (slot : Option ℕ) → i < length ontology.axioms → noted ≡ get_or ontology.axioms i noted → slot ≡ get_or ontology.slots i None
+      → flat_map canon_line (front_of takes ontology (i + 1)) ≡ flat_map canon_line (front_of takes ontology i) ++ line_in takes noted slot
   lines_more i noted slot within axiom_at slot_at =
       ap (λ l. flat_map canon_line l) (front_more i noted slot within axiom_at slot_at)
-      ∙ lines-append (front_of found i) (chosen_of found ((noted, slot) ∷ []))
-      ∙ ap (λ l. flat_map canon_line (front_of found i) ++ l) (chosen_one found noted slot)
+      ∙ lines-append (front_of takes ontology i) (chosen_of takes ((noted, slot) ∷ []))
+      ∙ ap (λ l. flat_map canon_line (front_of takes ontology i) ++ l) (chosen_one takes noted slot)
 
   -- after the last
-  pub front_whole : (n : ℕ) → n ≡ length found.ontology.now.axioms → front_of found n ≡ document_of found
-  front_whole n e = ap (λ l. chosen_of found l) (take_all n (entries found) (omega (arith, length-zip found.ontology.now.axioms found.ontology.now.slots long)))
+  pub front_whole : (n : ℕ) → n ≡ length ontology.axioms → front_of takes ontology n ≡ taken_of takes ontology
+  front_whole n e = ap (λ l. chosen_of takes l) (take_all n (entries ontology) (omega (arith, length-zip ontology.axioms ontology.slots long)))
 
   -- the lines of the first axioms are a front of all lines
-  pub lines_front : (i : ℕ) → flat_map canon_line (document_of found) ≡ flat_map canon_line (front_of found i) ++ flat_map canon_line (chosen_of found (drop i (entries found)))
+  pub lines_front : (i : ℕ) → flat_map canon_line (taken_of takes ontology) ≡ flat_map canon_line (front_of takes ontology i) ++ flat_map canon_line (chosen_of takes (drop i (entries ontology)))
   lines_front i =
-      ap (λ l. flat_map canon_line (chosen_of found l)) (sym (take-append-drop i (entries found)))
-      ∙ ap (λ l. flat_map canon_line l) (chosen-append found (take i (entries found)) (drop i (entries found)))
-      ∙ lines-append (front_of found i) (chosen_of found (drop i (entries found)))
+      ap (λ l. flat_map canon_line (chosen_of takes l)) (sym (take-append-drop i (entries ontology)))
+      ∙ ap (λ l. flat_map canon_line l) (chosen-append takes (take i (entries ontology)) (drop i (entries ontology)))
+      ∙ lines-append (front_of takes ontology i) (chosen_of takes (drop i (entries ontology)))
 
   -- the line of one axiom stops: what came before it, and its front, is a front of all lines
-  pub lines_stop : (i : ℕ) (noted : Noted) (slot : Option ℕ) → i < length found.ontology.now.axioms → noted ≡ get_or found.ontology.now.axioms i noted → slot ≡ get_or found.ontology.now.slots i None
-      → (old mid new : Option (List ℕ)) → Gains old mid (flat_map canon_line (front_of found i)) → GainsFront mid new (line_in found noted slot) → GainsFront old new (flat_map canon_line (document_of found))
+  pub lines_stop : (i : ℕ) (noted : Noted) (slot : Option ℕ) → i < length ontology.axioms → noted ≡ get_or ontology.axioms i noted → slot ≡ get_or ontology.slots i None
+      → (old mid new : Option (List ℕ)) → Gains old mid (flat_map canon_line (front_of takes ontology i)) → GainsFront mid new (line_in takes noted slot) → GainsFront old new (flat_map canon_line (taken_of takes ontology))
   lines_stop i noted slot within axiom_at slot_at old mid new first stop =
       subst (λ l. GainsFront old new l) (sym (lines_front (i + 1)))
-      (stops_early old new (flat_map canon_line (front_of found (i + 1))) (flat_map canon_line (chosen_of found (drop (i + 1) (entries found))))
-      (subst (λ l. GainsFront old new l) (sym (lines_more i noted slot within axiom_at slot_at)) (stops old mid new (flat_map canon_line (front_of found i)) (line_in found noted slot) first stop)))
+      (stops_early old new (flat_map canon_line (front_of takes ontology (i + 1))) (flat_map canon_line (chosen_of takes (drop (i + 1) (entries ontology))))
+      (subst (λ l. GainsFront old new l) (sym (lines_more i noted slot within axiom_at slot_at)) (stops old mid new (flat_map canon_line (front_of takes ontology i)) (line_in takes noted slot) first stop)))
 
   document_size : (xs : List Noted) → length (canon_document xs) ≡ length document_head + (length (flat_map canon_line xs) + length document_foot)
   document_size xs = length-append document_head (flat_map canon_line xs ++ document_foot) ∙ ap (λ n. length document_head + n) (length-append (flat_map canon_line xs) document_foot)
 
-  pub size_more : (i : ℕ) (noted : Noted) (slot : Option ℕ) → i < length found.ontology.now.axioms → noted ≡ get_or found.ontology.now.axioms i noted → slot ≡ get_or found.ontology.now.slots i None
-      → length (canon_document (front_of found (i + 1))) ≡ length (canon_document (front_of found i)) + length (line_in found noted slot)
+  pub size_more : (i : ℕ) (noted : Noted) (slot : Option ℕ) → i < length ontology.axioms → noted ≡ get_or ontology.axioms i noted → slot ≡ get_or ontology.slots i None
+      → length (canon_document (front_of takes ontology (i + 1))) ≡ length (canon_document (front_of takes ontology i)) + length (line_in takes noted slot)
   size_more i noted slot within axiom_at slot_at =
-      let lines : length (flat_map canon_line (front_of found (i + 1))) ≡ length (flat_map canon_line (front_of found i)) + length (line_in found noted slot) =
-      ap (λ l. length l) (lines_more i noted slot within axiom_at slot_at) ∙ length-append (flat_map canon_line (front_of found i)) (line_in found noted slot) in
-      let before = document_size (front_of found i) in
-      let after = document_size (front_of found (i + 1)) in
+      let lines : length (flat_map canon_line (front_of takes ontology (i + 1))) ≡ length (flat_map canon_line (front_of takes ontology i)) + length (line_in takes noted slot) =
+      ap (λ l. length l) (lines_more i noted slot within axiom_at slot_at) ∙ length-append (flat_map canon_line (front_of takes ontology i)) (line_in takes noted slot) in
+      let before = document_size (front_of takes ontology i) in
+      let after = document_size (front_of takes ontology (i + 1)) in
       omega arith
 
 -- a size that stands at its greatest stays there

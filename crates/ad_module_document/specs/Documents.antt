@@ -30,9 +30,13 @@ abbrev pub is_chosen : InSlots → List Entity → List Bool → List Bool → N
 is_chosen ontology seed members closure a (Some slot) = has members slot
 is_chosen ontology seed members closure a None = goes_with (is_about ontology seed closure) a.axiom
 
+-- the axioms that a test of an axiom and its slot, if it has one, takes, in the ontology's order
+abbrev pub taken_of : (Noted → Option ℕ → Bool) → InSlots → List Noted
+taken_of takes ontology = map (λ p. p.0) (filter (λ p. takes p.0 p.1) (zip ontology.axioms ontology.slots))
+
 -- the document, by the rows of a module and of its closure
 abbrev pub document_in : InSlots → List Entity → List Bool → List Bool → List Noted
-document_in ontology seed members closure = map (λ p. p.0) (filter (λ p. is_chosen ontology seed members closure p.0 p.1) (zip ontology.axioms ontology.slots))
+document_in ontology seed members closure = taken_of (is_chosen ontology seed members closure) ontology
 
 -- of the numbers of entities, these are those of the seed's entities
 abbrev pub AreSeedNumbers : InSlots → List Entity → (ℕ → Bool) → Type 0

@@ -5,6 +5,7 @@ ghost use Rattle.ad_entity.specs.Builtin.{is_builtin};
 ghost use Rattle.ad_entity.specs.Entities.{entity, same_entity};
 ghost use Rattle.ad_module_document.specs.Documents.{IsRoomFor, is_about, is_chosen};
 
+use crate::choice::Choice;
 use crate::room::Room;
 use ad_base::Word;
 use ad_numbered::NumberedOntology;
@@ -33,12 +34,13 @@ impl<'a> Seen for Found<'a> {
     }
 }
 
-impl<'a> Found<'a> {
-    // Whether an axiom with this slot, if it has one, is in the document.
-    pub(crate) fn chooses(&self, noted: &Noted, slot: Option<u32>) -> bool
-        requires { IfSome slot (λ i. i < self.now.ontology.now.most) }
-        ensures { result ≡ is_chosen self.now.ontology.now self.now.seed.now self.now.room.now.members self.now.room.now.closure noted.now slot }
-    {
+// The document has the module's axioms, and the carried axioms that go with its entities.
+impl<'a> Choice for Found<'a> {
+    ghost reach = { λ found. found.ontology.now.most };
+
+    ghost takes = { λ found. is_chosen found.ontology.now found.seed.now found.room.now.members found.room.now.closure };
+
+    fn takes(&self, noted: &Noted, slot: Option<u32>) -> bool {
         match slot {
             Some(slot) => self.room.members.has(slot),
             None => goes_with(noted, self),

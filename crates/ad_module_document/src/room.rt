@@ -5,7 +5,7 @@ ghost use Rattle.ad_theory.specs.Tally.{IsRaisedBy};
 ghost use Rattle.ad_write.specs.Canonical.{canon_document};
 ghost use Rattle.ad_module_document.specs.Documents.{HoldModule, IsRoomFor, document_in};
 
-use crate::document::{size_of, write_all};
+use crate::document::{document_size_of, write_document_of};
 use crate::found::Found;
 use crate::seeds::mark_seed;
 use ad_base::{Kind, Limits, Memory};
@@ -74,11 +74,14 @@ impl Room {
         requires { IsRoomFor ontology.now.most ontology.now.symbols self.now }
         ensures { result ≡ min (length (canon_document (document_in ontology.now seed.now self.now.members self.now.closure))) (2 ^ 64 - 1) }
     {
-        size_of(&Found {
+        document_size_of(
             ontology,
-            seed,
-            room: self,
-        })
+            &Found {
+                ontology,
+                seed,
+                room: self,
+            },
+        )
     }
 
     /// Writes the document of the found module. It takes no memory.
@@ -92,7 +95,8 @@ impl Room {
         ensures bytes { Puts (K.written sink.old) (K.written sink.new) result (canon_document (document_in ontology.now seed.now self.now.members self.now.closure)) }
         ensures cause { PutCause (K.faults sink.old) (K.faults sink.new) result }
     {
-        write_all(
+        write_document_of(
+            ontology,
             &Found {
                 ontology,
                 seed,

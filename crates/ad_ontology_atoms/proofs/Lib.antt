@@ -2,3 +2,4 @@ mod BesideLemmas
 mod GenuineLemmas
 mod ShapeLemmas
 mod ExistenceLemmas
+mod UnionLemmas

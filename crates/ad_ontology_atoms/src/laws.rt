@@ -4,7 +4,7 @@ ghost use Rattle.ad_base.specs.declared.limits.Kind.{Kind};
 ghost use Rattle.ad_decomposition.specs.Tables.{AreGenuine, is_in_row_of};
 ghost use Rattle.ad_entity.specs.declared.entities.Entity.{Entity};
 ghost use Rattle.ad_flat.specs.Trees.{ArePlaced};
-ghost use Rattle.ad_ontology_atoms.specs.OntologyAtoms.{AreGenuineModules, IsShapeOf};
+ghost use Rattle.ad_ontology_atoms.specs.OntologyAtoms.{AreGenuineModules, IsShapeOf, ModulesHoldWholeAtoms};
 ghost use Rattle.ad_shapes.specs.Shapes.{Shape, shape_of};
 ghost use Rattle.ad_slots.specs.Held.{Held};
 ghost use Rattle.ad_slots.specs.Places.{is_held, held_symbols, is_held_local};
@@ -41,4 +41,9 @@ pub fn shape_exists()
 pub fn one_shape()
     ensures { (kind : Kind) (ontology : List Noted) (one other : Shape) →
         IsShapeOf kind ontology one → IsShapeOf kind ontology other → one ≡ other }
+{}
+
+/// Where an axiom of an atom is in a module of the same kind, for whatever seed, all axioms of that atom are.
+pub fn whole_atoms()
+    ensures { ModulesHoldWholeAtoms }
 {}

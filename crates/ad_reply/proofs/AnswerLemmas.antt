@@ -38,6 +38,8 @@ refusal_parts (refusals.Text (texts.Prefix at)) = refl
 refusal_parts (refusals.Text (texts.PrefixTwice at)) = refl
 refusal_parts (refusals.Text texts.Memory) = refl
 refusal_parts (refusals.Limit edition which count) = refl
+refusal_parts (refusals.Atom edition count) = refl
+refusal_parts (refusals.Moved edition) = refl
 refusal_parts refusals.Memory = refl
 refusal_parts refusals.Shut = refl
 

@@ -15,7 +15,8 @@ cause_with n =
     (cond (bytes_eq n (codes "23")) causes.Unsupported
     (cond (bytes_eq n (codes "30")) causes.Limit
     (cond (bytes_eq n (codes "41")) causes.Atom
-    (cond (bytes_eq n (codes "90")) causes.Memory causes.Shut)))))))
+    (cond (bytes_eq n (codes "50")) causes.Moved
+    (cond (bytes_eq n (codes "90")) causes.Memory causes.Shut))))))))
 
 leads_back : (cause : Cause) → cause_with (number_word cause) ≡ cause
 unfolding cause_with
@@ -26,6 +27,7 @@ leads_back causes.Prefix = refl
 leads_back causes.Unsupported = refl
 leads_back causes.Limit = refl
 leads_back causes.Atom = refl
+leads_back causes.Moved = refl
 leads_back causes.Memory = refl
 leads_back causes.Shut = refl
 

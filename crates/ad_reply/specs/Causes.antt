@@ -12,6 +12,7 @@ number_word causes.Prefix = codes "22"
 number_word causes.Unsupported = codes "23"
 number_word causes.Limit = codes "30"
 number_word causes.Atom = codes "41"
+number_word causes.Moved = codes "50"
 number_word causes.Memory = codes "90"
 number_word causes.Shut = codes "91"
 

@@ -3,3 +3,5 @@ pub mod Replies
 pub mod Bodies
 pub mod Written
 pub mod Counted
+pub mod Atoms
+pub mod Stats

@@ -1,5 +1,6 @@
 -- The replies of a session, and the bytes of each.
-use Rattle.std.specs.Prelude.{ℕ, List, [], ◌∷◌, ◌++◌, Option, None, Some, length, codes, decimal}
+use Rattle.std.specs.Prelude.{◌≡◌, ◌≤◌, ℕ, List, [], ◌∷◌, ◌++◌, Option, None, Some, length, codes, decimal}
+use Rattle.ad_base.specs.declared.limits.Kind.{Kind}
 use Rattle.ad_base.specs.declared.limits.Which.{Which}
 use Rattle.ad_base.specs.declared.limits.Which.TheVariants as limits
 use Rattle.ad_check.specs.declared.texts.Unsupported.{Unsupported}
@@ -7,6 +8,9 @@ use Rattle.ad_check.specs.declared.texts.Unsupported.TheVariants as parts
 use Rattle.ad_lex.specs.declared.token.LexFault.{LexFault}
 use Rattle.ad_lex.specs.declared.token.LexFault.TheVariants as faults
 use Rattle.ad_lines.specs.Lines.{line_of}
+use Rattle.ad_request.specs.declared.request.Request.{Request}
+use Rattle.ad_request.specs.declared.request.Request.TheVariants.{Atom}
+use Rattle.ad_tree.specs.declared.axioms.Noted.{Noted}
 use Rattle.ad_read.specs.declared.texts.ReadRefused.{ReadRefused}
 use Rattle.ad_read.specs.declared.texts.ReadRefused.TheVariants as texts
 use Rattle.ad_write.specs.Keywords as kw
@@ -16,6 +20,7 @@ use Rattle.ad_reply.specs.declared.cause.Cause.{Cause}
 use Rattle.ad_reply.specs.declared.cause.Cause.TheVariants as causes
 use Rattle.ad_reply.specs.declared.refusal.Refusal.{Refusal}
 use Rattle.ad_reply.specs.declared.refusal.Refusal.TheVariants as refusals
+use Rattle.ad_reply.specs.Bodies.{IsBody, HasAtoms}
 use Rattle.ad_reply.specs.Causes.{number_word}
 
 pub data Reply : Type 0 where
@@ -35,6 +40,8 @@ pub data Reply : Type 0 where
   limited : (edition : ℕ) (which : Which) (count : ℕ) → Reply
   -- on the edition of this number there are only so many atoms
   no_atom : (edition : ℕ) (count : ℕ) → Reply
+  -- the edit expects another edition than the newest, which has this number
+  moved : (edition : ℕ) → Reply
   -- memory is wanting
   no_memory : Reply
   -- the editions are shut for this session
@@ -62,6 +69,7 @@ cause_of (faulty_prefix at) = Some causes.Prefix
 cause_of (unsupported at word) = Some causes.Unsupported
 cause_of (limited edition which count) = Some causes.Limit
 cause_of (no_atom edition count) = Some causes.Atom
+cause_of (moved edition) = Some causes.Moved
 cause_of no_memory = Some causes.Memory
 cause_of shut = Some causes.Shut
 
@@ -75,6 +83,7 @@ details (faulty_prefix at) = decimal at ∷ []
 details (unsupported at word) = decimal at ∷ word ∷ []
 details (limited edition which count) = decimal edition ∷ which_word which ∷ decimal count ∷ []
 details (no_atom edition count) = decimal edition ∷ decimal count ∷ []
+details (moved edition) = decimal edition ∷ []
 details no_memory = []
 details shut = []
 
@@ -100,6 +109,7 @@ reply_bytes (faulty_prefix at) = refusal_line (faulty_prefix at)
 reply_bytes (unsupported at word) = refusal_line (unsupported at word)
 reply_bytes (limited edition which count) = refusal_line (limited edition which count)
 reply_bytes (no_atom edition count) = refusal_line (no_atom edition count)
+reply_bytes (moved edition) = refusal_line (moved edition)
 reply_bytes no_memory = refusal_line no_memory
 reply_bytes shut = refusal_line shut
 
@@ -143,5 +153,13 @@ abbrev pub refused : Refusal → Reply
 refused refusals.Request = no_request
 refused (refusals.Text cause) = unread_text cause
 refused (refusals.Limit edition which count) = limited edition which count
+refused (refusals.Atom edition count) = no_atom edition count
+refused (refusals.Moved edition) = moved edition
 refused refusals.Memory = no_memory
 refused refusals.Shut = shut
+
+-- The reply to a query, with its payload, on the edition of this number with this ontology: what was asked for; or, where
+-- an atom was asked for that there isn't, how many atoms there are.
+pub data IsReplyOn (depth : ℕ) (request : Request) (payload : List ℕ) (number : ℕ) (ontology : List Noted) (reply : Reply) : Type 0 where
+  given : (body : List ℕ) → IsBody depth request payload ontology body → reply ≡ answered number body → IsReplyOn depth request payload number ontology reply
+  beyond : (kind : Kind) (atom count : ℕ) → request ≡ Atom kind atom → HasAtoms kind ontology count → count ≤ atom → reply ≡ no_atom number count → IsReplyOn depth request payload number ontology reply

@@ -1,11 +1,14 @@
 ghost use Rattle.std.specs.Prelude.{◌≡◌, ◌≤◌, length};
 ghost use Rattle.ad_base.specs.declared.limits.Kind.{Kind};
+ghost use Rattle.ad_entity.specs.Entities.{has_entity};
+ghost use Rattle.ad_entity.specs.declared.entities.Entity.{Entity};
 ghost use Rattle.ad_io.specs.Sink.{Puts, PutCause};
+ghost use Rattle.ad_locality.specs.Signature.{in_signature};
 ghost use Rattle.ad_theory.specs.Tally.{IsRaisedBy};
 ghost use Rattle.ad_write.specs.Canonical.{canon_document};
 ghost use Rattle.ad_module_document.specs.Documents.{HoldModule, IsRoomFor, document_in};
 ghost use Rattle.ad_reply.specs.Replies.{accepted, answer_line, answered, reply_bytes};
-ghost use Rattle.ad_reply.specs.Written.{AreToolsOf, PutsModule};
+ghost use Rattle.ad_reply.specs.Written.{AreToolsOf, PutsGenuine, PutsModule};
 
 use crate::counts::CountsText;
 use ad_base::Kind;
@@ -14,7 +17,7 @@ use ad_io::{Sink, Wrote, put_each};
 use ad_lines::Decimal;
 use ad_module_document::{Room, found_documents};
 use ad_theory::{Extractor, Tally};
-use ad_tree::Seed;
+use ad_tree::{Noted, Seed};
 use ad_write::write_document;
 
 /// Writes the whole ontology of the edition. It takes no memory.
@@ -49,6 +52,29 @@ pub fn module_reply<K: Sink, E: Extractor>(
     let ontology = edition.ontology();
     room.find(ontology, kind, seed, bench, tally);
     put_found(edition, seed, room, sink)
+}
+
+/// Writes the module of the edition for the signature of the axiom, which is found with this bench and room. It takes no
+/// memory.
+pub fn genuine_reply<K: Sink, E: Extractor>(
+    edition: &Edition,
+    kind: Kind,
+    noted: &Noted,
+    seed: &Seed,
+    bench: &mut E,
+    room: &mut Room,
+    sink: &mut K,
+    tally: &mut Tally,
+) -> Wrote
+    requires tools { AreToolsOf edition.now.limits (E.made_for bench.old) room.old }
+    requires members { (e : Entity) → has_entity seed.now e ≡ in_signature noted.now.axiom e }
+    ensures reply { PutsGenuine kind edition.now.shown noted.now (K.written sink.old) (K.written sink.new) result }
+    ensures cause { PutCause (K.faults sink.old) (K.faults sink.new) result }
+    ensures tools { AreToolsOf edition.now.limits (E.made_for bench.new) room.new }
+    ensures tests { tally.old.tests ≤ tally.new.tests }
+    ensures runs { IsRaisedBy 1 tally.old.runs tally.new.runs }
+{
+    module_reply(edition, kind, seed, bench, room, sink, tally)
 }
 
 // Writes the module that was found.
@@ -90,7 +116,7 @@ pub fn edit_reply<K: Sink>(receipt: Receipt, sink: &mut K) -> Wrote
 }
 
 // Writes the line before a body of that many bytes.
-fn put_answer_line<K: Sink>(edition: u32, bytes: u64, sink: &mut K) -> Wrote
+pub(crate) fn put_answer_line<K: Sink>(edition: u32, bytes: u64, sink: &mut K) -> Wrote
     ensures bytes { Puts (K.written sink.old) (K.written sink.new) result (answer_line edition bytes) }
     ensures cause { PutCause (K.faults sink.old) (K.faults sink.new) result }
 {

@@ -18,6 +18,8 @@ pub enum Cause {
     Limit,
     /// There is no atom of this number.
     Atom,
+    /// The edit expects another edition than the newest.
+    Moved,
     /// Want of memory.
     Memory,
     /// The editions are shut for this session.
@@ -37,6 +39,7 @@ impl Cause {
             Cause::Unsupported => b"23",
             Cause::Limit => b"30",
             Cause::Atom => b"41",
+            Cause::Moved => b"50",
             Cause::Memory => b"90",
             Cause::Shut => b"91",
         }

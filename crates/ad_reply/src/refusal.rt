@@ -24,6 +24,15 @@ pub enum Refusal {
         which: Which,
         count: u64,
     },
+    /// On the edition of this number there are only so many atoms.
+    Atom {
+        edition: u32,
+        count: u32,
+    },
+    /// The edit expects another edition than the newest, which has this number.
+    Moved {
+        edition: u32,
+    },
     /// Want of memory.
     Memory,
     /// The editions are shut for this session.
@@ -39,6 +48,8 @@ impl Refusal {
             Refusal::Request => Cause::Request,
             Refusal::Text(cause) => cause_of_text(cause),
             Refusal::Limit { .. } => Cause::Limit,
+            Refusal::Atom { .. } => Cause::Atom,
+            Refusal::Moved { .. } => Cause::Moved,
             Refusal::Memory => Cause::Memory,
             Refusal::Shut => Cause::Shut,
         }
@@ -93,6 +104,8 @@ fn put_details<K: Sink>(refusal: Refusal, sink: &mut K) -> Wrote
             which,
             count,
         } => put_limit(edition, which, count, sink),
+        Refusal::Atom { edition, count } => put_numbers(edition, count, sink),
+        Refusal::Moved { edition } => put_number(edition, sink),
         Refusal::Request | Refusal::Memory | Refusal::Shut => put_all(sink, b"\n"),
     }
 }
@@ -119,6 +132,19 @@ fn put_number<K: Sink>(number: u32, sink: &mut K) -> Wrote
 {
     let number = Decimal::of(u64::from(number));
     put_each(sink, &[b" ", number.as_bytes(), b"\n"])
+}
+
+// Writes two numbers behind a word, and a line feed.
+fn put_numbers<K: Sink>(first: u32, second: u32, sink: &mut K) -> Wrote
+    ensures bytes { Puts (K.written sink.old) (K.written sink.new) result (behind (decimal first ∷ decimal second ∷ [])) }
+    ensures cause { PutCause (K.faults sink.old) (K.faults sink.new) result }
+{
+    let first = Decimal::of(u64::from(first));
+    let second = Decimal::of(u64::from(second));
+    put_each(
+        sink,
+        &[b" ", first.as_bytes(), b" ", second.as_bytes(), b"\n"],
+    )
 }
 
 // Writes that what stands at this place isn't read.

@@ -27,6 +27,8 @@ parts (refusals.Text (texts.PrefixTwice at)) = refl
 parts (refusals.Text texts.Memory) = refl
 parts (refusals.Limit edition which count) = refl
 parts refusals.Memory = refl
+parts (refusals.Atom edition count) = refl
+parts (refusals.Moved edition) = refl
 parts refusals.Shut = refl
 
 joins : (words why : List ℕ) (old mid new : Option (List ℕ)) (w : Wrote) → Gains old mid words → Puts mid new w why → Puts old new w (words ++ why)

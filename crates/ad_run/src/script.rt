@@ -7,8 +7,10 @@ ghost use Rattle.ad_run.specs.Statuses.{status_of};
 use crate::status::Status;
 use ad_base::Limits;
 use ad_core::Machine;
+use ad_gate::FreeGate;
 use ad_io::{Sink, Source};
 use ad_session::{End, Work, session};
+use ad_theory::Tally;
 use std::alloc::Global;
 use std::hash::RandomState;
 use std::thread::Threads;
@@ -35,7 +37,18 @@ pub(crate) fn run_script<S: Source, K: Sink>(
         Ok(work) => work,
         Err(_memory) => return Status::Memory,
     };
-    let end = session(rt, alloc, source, sink, &mut machine, 0, &mut work);
+    let mut tally = Tally::new();
+    let end = session(
+        rt,
+        alloc,
+        source,
+        sink,
+        &mut machine,
+        0,
+        &mut work,
+        &FreeGate,
+        &mut tally,
+    );
     status_of(end)
 }
 

@@ -92,7 +92,7 @@ fn make(
     none: &Edition,
     batch: &Batch,
 ) -> Result<(Entry, Edition), Memory> {
-    let Ok(mut draft) = none.begin(alloc, batch) else {
+    let Ok(mut draft) = none.begin(alloc, batch, None) else {
         return Err(Memory);
     };
     let entry = draft.take_entry(alloc, 3, 7);

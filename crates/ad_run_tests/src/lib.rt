@@ -10,6 +10,8 @@ mod dialogues;
 #[cfg(test)]
 mod editions;
 #[cfg(test)]
+mod gates;
+#[cfg(test)]
 mod limits;
 #[cfg(test)]
 mod machines;

@@ -53,15 +53,48 @@ fn expect(
     Ok(())
 }
 
+const ADDED: &str = "OK 1 37\nadded 3 already 0 removed 0 absent 0\n";
+
+// The edit of three axioms has four entities, and makes a document of 84 bytes.
 #[test]
-fn axioms(rt: HostRuntime) -> Result<(), Fail> {
+fn at_the_limits(rt: HostRuntime) -> Result<(), Fail> {
+    let mut limits = Limits::standard();
+    limits.axioms = 3;
+    limits.entities = 4;
+    limits.bytes = 84;
+    limits.editions = 1;
+    expect(&rt, rt.alloc(), limits, THREE, ADDED, End::Closed)
+}
+
+#[test]
+fn one_above(rt: HostRuntime) -> Result<(), Fail> {
+    let mut limits = Limits::standard();
+    limits.axioms = 4;
+    limits.entities = 5;
+    limits.bytes = 85;
+    limits.editions = 2;
+    expect(&rt, rt.alloc(), limits, THREE, ADDED, End::Closed)
+}
+
+// All limits are one below what the edit needs, and then one after another is not.
+#[test]
+fn one_below_in_order(rt: HostRuntime) -> Result<(), Fail> {
     let mut limits = Limits::standard();
     limits.axioms = 2;
-    let refused = "NO 30 0 axioms 3\n";
-    expect(&rt, rt.alloc(), limits, THREE, refused, End::Closed)?;
-    // Axioms are looked at first.
+    limits.entities = 3;
+    limits.bytes = 83;
     limits.editions = 0;
-    expect(&rt, rt.alloc(), limits, THREE, refused, End::Closed)
+    let axioms = "NO 30 0 axioms 3\n";
+    expect(&rt, rt.alloc(), limits, THREE, axioms, End::Closed)?;
+    limits.axioms = 3;
+    let entities = "NO 30 0 entities 4\n";
+    expect(&rt, rt.alloc(), limits, THREE, entities, End::Closed)?;
+    limits.entities = 4;
+    let bytes = "NO 30 0 bytes 84\n";
+    expect(&rt, rt.alloc(), limits, THREE, bytes, End::Closed)?;
+    limits.bytes = 84;
+    let editions = "NO 30 0 editions 1\n";
+    expect(&rt, rt.alloc(), limits, THREE, editions, End::Closed)
 }
 
 #[test]
@@ -69,18 +102,12 @@ fn no_axiom(rt: HostRuntime) -> Result<(), Fail> {
     let mut limits = Limits::standard();
     limits.axioms = 0;
     let input = "EDIT 24\n+SubClassOf(<u:A> <u:B>)";
-    expect(
-        &rt,
-        rt.alloc(),
-        limits,
-        input,
-        "NO 30 0 axioms 1\n",
-        End::Closed,
-    )
+    let refused = "NO 30 0 axioms 1\n";
+    expect(&rt, rt.alloc(), limits, input, refused, End::Closed)
 }
 
 #[test]
-fn editions(rt: HostRuntime) -> Result<(), Fail> {
+fn later_editions(rt: HostRuntime) -> Result<(), Fail> {
     let mut limits = Limits::standard();
     limits.editions = 1;
     let input = "EDIT 25\n+SubClassOf(<u:A> <u:B>)\nEDIT 0\n";

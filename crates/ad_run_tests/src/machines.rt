@@ -4,7 +4,9 @@ use crate::editions::addition;
 use ad_base::{Limits, Memory};
 use ad_core::Machine;
 use ad_edition::{Look, Receipt};
+use ad_gate::FreeGate;
 use ad_session::End;
+use ad_theory::Tally;
 use ad_tree::Batch;
 use std::alloc::Global;
 use std::hash::RandomState;
@@ -126,7 +128,9 @@ fn accepts(
     batch: &Batch,
     receipt: Receipt,
 ) -> bool {
-    index < machine.sessions() && machine.commit(rt, alloc, index, batch) == Ok(receipt)
+    let mut tally = Tally::new();
+    index < machine.sessions()
+        && machine.commit(rt, alloc, index, batch, None, &FreeGate, &mut tally) == Ok(receipt)
 }
 
 fn enter(machine: &mut Machine, index: u32) {

@@ -4,6 +4,7 @@ ghost use Rattle.std.specs.Prelude.{◌<◌};
 use crate::dialogues::end_over;
 use ad_base::{Limits, Memory};
 use ad_core::Machine;
+use ad_gate::FreeGate;
 use ad_io::{MemSink, MemSource};
 use ad_session::End;
 use std::alloc::Global;
@@ -73,7 +74,7 @@ fn end_of(
     sink: &mut MemSink,
 ) -> Result<(End, u32), Memory> {
     let mut machine = Machine::new(alloc, keys, Limits::standard(), 1, 1)?;
-    let end = end_over(rt, alloc, &mut machine, 0, source, sink);
+    let end = end_over(rt, alloc, &mut machine, 0, source, sink, &FreeGate);
     let edits = machine.newest().number();
     drop(machine);
     Ok((end?, edits))

@@ -1,10 +1,12 @@
 -- What a talk, and an edit behind it, do to a machine.
-use Rattle.std.proofs.Common.{◌≡◌, ℕ, ◌≤◌, List, [], ◌∷◌, None, Some, Ok, Err, length, take, get_or, set, refl, sym, ◌∙◌, ap, subst, arith}
+use Rattle.std.proofs.Common.{◌≡◌, ℕ, ◌≤◌, IsFalse, List, [], ◌∷◌, None, Some, Ok, Err, length, take, get_or, set, refl, sym, ◌∙◌, ap, subst, arith}
 use Rattle.std.proofs.lemmas.List.{length-take, set-set, set-get_or}
 use Rattle.ad_request.specs.declared.request.Request.{Request}
 use Rattle.ad_request.specs.declared.request.Request.TheVariants.{Load, Edit, Module, Genuine, Atoms, Atom, Export, Stat, Quit}
+use Rattle.ad_request.specs.Requests.{expected_of}
 use Rattle.ad_items.specs.Items.{Item}
 use Rattle.ad_tree.specs.declared.edits.Op.{Op}
+use Rattle.ad_edition.specs.Limit.{is_moved}
 use Rattle.ad_edition.specs.Log.{Logged, replay}
 use Rattle.ad_edition.specs.Sight.{Sight, Footing}
 use Rattle.ad_edition.specs.State.{State, IsMachine, after_look, after_commit, first_passed, IsRefusalOf, receipt_after}
@@ -13,8 +15,7 @@ use Rattle.ad_edition.specs.declared.receipts.Refused.{Refused}
 use Rattle.ad_edition.specs.declared.receipts.Refused.TheVariants as refusals
 use Rattle.ad_core.specs.Sights.{sight_of, footing_of}
 use Rattle.ad_core.proofs.LookLemmas.{footing_tells}
-use Rattle.ad_reply.specs.Bodies.{IsBody}
-use Rattle.ad_reply.specs.Replies.{Reply, answered}
+use Rattle.ad_reply.specs.Replies.{Reply, IsReplyOn}
 use Rattle.ad_session.specs.Asked.{TakesMemory, SpellsBatch}
 use Rattle.ad_session.specs.Steps.{Steps}
 use Rattle.ad_session.specs.LookAnswers as says
@@ -27,7 +28,7 @@ use Rattle.ad_session.specs.Turns.{outcome_reply}
 says_lapses : (depth : ℕ) (footing : Footing) (old new : Sight) (i : Item) (reply : Reply) → LookAnswers depth footing old i reply new → old.lapses ≤ new.lapses
 says_lapses depth footing old new i reply (says.unasked asked is seen) = omega (arith, ap (λ (s : Sight). s.lapses) seen)
 says_lapses depth footing old new i reply (says.unread r cause asked known unread is seen) = omega (arith, ap (λ (s : Sight). s.lapses) seen)
-says_lapses depth footing old new i reply (says.queried r body asked looks is eq) = omega (arith, looks.lapses)
+says_lapses depth footing old new i reply (says.queried r asked looks is) = omega (arith, looks.lapses)
 says_lapses depth footing old new i reply (says.wanting r asked takes is seen) = omega (arith, ap (λ (s : Sight). s.lapses) seen)
 says_lapses depth footing old new i reply (says.lapsed r asked query enters rose is) = enters.lapses
 says_lapses depth footing old new i reply (says.barred r asked query seen rose later is) = later
@@ -52,8 +53,8 @@ looked_at machine old new looks =
 says_machine : (machine : State) (old new : Sight) (i : Item) (reply : Reply) → LookAnswers machine.limits.depth (footing_of machine) old i reply new → new.lapses ≡ 0 → MachineAnswers (machine_at machine old) i reply (machine_at machine new)
 says_machine machine old new i reply (says.unasked asked is seen) sure = machines.unasked asked is (ap (λ (s : Sight). machine_at machine s) seen)
 says_machine machine old new i reply (says.unread r cause asked known unread is seen) sure = machines.unread r cause asked known unread is (ap (λ (s : Sight). machine_at machine s) seen)
-says_machine machine old new i reply (says.queried r body asked looks is eq) sure =
-    machines.queried r body asked (subst (λ (log : List Logged). IsBody machine.limits.depth r i.payload (replay log) body) looks.reaches is) (eq ∙ ap (λ (log : List Logged). answered (length log) body) looks.reaches) (looked_at machine old new looks)
+says_machine machine old new i reply (says.queried r asked looks is) sure =
+    machines.queried r asked (subst (λ (log : List Logged). IsReplyOn machine.limits.depth r i.payload (length log) (replay log) reply) looks.reaches is) (looked_at machine old new looks)
 says_machine machine old new i reply (says.wanting r asked takes is seen) sure = machines.wanting r asked takes is (ap (λ (s : Sight). machine_at machine s) seen)
 says_machine machine old new i reply (says.lapsed r asked query enters rose is) sure = absurd (omega (arith, rose, sure))
 says_machine machine old new i reply (says.barred r asked query seen rose later is) sure = absurd (omega (arith, rose, sure))
@@ -97,8 +98,8 @@ talked_run old new items replies before after footing limits run =
     (subst (λ (m : State). MachineRun (machine_at old (sight_of old)) items replies m) (at_end old new after footing limits) (talk_machine old (sight_of old) (sight_of new) items replies run refl))
 
 batch_takes : (depth : ℕ) (request : Request) (payload : List ℕ) (ops : List Op) → SpellsBatch depth request payload ops → TakesMemory request
-batch_takes depth (Load n) payload ops s = absurd s
-batch_takes depth (Edit n) payload ops s = tt
+batch_takes depth (Load n) payload ops s = tt
+batch_takes depth (Edit n expected) payload ops s = tt
 batch_takes depth (Module k n) payload ops s = absurd s
 batch_takes depth (Genuine k n) payload ops s = absurd s
 batch_takes depth (Atoms k) payload ops s = absurd s
@@ -108,15 +109,17 @@ batch_takes depth Stat payload ops s = absurd s
 batch_takes depth Quit payload ops s = absurd s
 
 -- an accepted edit of a machine
-pub commit_accepted : (machine : State) (request : Request) (i : Item) (ops : List Op) (receipt : Receipt) (new : State) → i.asked ≡ Some request → SpellsBatch machine.limits.depth request i.payload ops → first_passed machine ops ≡ None → receipt ≡ receipt_after machine ops → new ≡ after_commit machine machine.session ops
+pub commit_accepted : (machine : State) (request : Request) (i : Item) (ops : List Op) (receipt : Receipt) (new : State) → i.asked ≡ Some request → SpellsBatch machine.limits.depth request i.payload ops → IsFalse (is_moved (expected_of request) (length machine.log)) → first_passed machine ops ≡ None → receipt ≡ receipt_after machine ops → new ≡ after_commit machine machine.session ops
     → MachineAnswers machine i (outcome_reply (Ok receipt)) new
-commit_accepted machine request i ops receipt new asked spelled free is after =
-    machines.accepted request ops asked spelled free (ap (λ (r : Receipt). outcome_reply (Ok r)) is) after
+commit_accepted machine request i ops receipt new asked spelled expected free is after =
+    machines.accepted request ops asked spelled expected free (ap (λ (r : Receipt). outcome_reply (Ok r)) is) after
 
 -- a refused one
-pub commit_refused : (machine : State) (request : Request) (i : Item) (ops : List Op) (cause : Refused) (new : State) → i.asked ≡ Some request → SpellsBatch machine.limits.depth request i.payload ops → IsRefusalOf machine ops cause → new ≡ machine
+pub commit_refused : (machine : State) (request : Request) (i : Item) (ops : List Op) (cause : Refused) (new : State) → i.asked ≡ Some request → SpellsBatch machine.limits.depth request i.payload ops → IsRefusalOf machine (expected_of request) ops cause → new ≡ machine
     → MachineAnswers machine i (outcome_reply (Err cause)) new
 commit_refused machine request i ops (refusals.Limit edition which count) new asked spelled refused same =
-    machines.limited_edit request ops which count asked spelled refused.1 (ap (λ n. outcome_reply (Err (refusals.Limit n which count))) refused.0) same
+    machines.limited_edit request ops which count asked spelled refused.0 refused.1.1 (ap (λ n. outcome_reply (Err (refusals.Limit n which count))) refused.1.0) same
+commit_refused machine request i ops (refusals.Moved edition) new asked spelled refused same =
+    machines.moved_edit request ops asked spelled refused.1 (ap (λ n. outcome_reply (Err (refusals.Moved n))) refused.0) same
 commit_refused machine request i ops refusals.Memory new asked spelled refused same =
     machines.wanting request asked (batch_takes machine.limits.depth request i.payload ops spelled) refl same

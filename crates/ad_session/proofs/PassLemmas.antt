@@ -12,8 +12,7 @@ use Rattle.ad_edition.specs.State.{State, IsMachine, ticket_of, entered_by, afte
 use Rattle.ad_edition.proofs.LogLemmas.{count_of-append, count_of-one, GoesOn-push}
 use Rattle.ad_core.specs.Sights.{footing_of}
 use Rattle.ad_core.proofs.LookLemmas.{entered_by-look, entered_by-front}
-use Rattle.ad_reply.specs.Bodies.{IsBody}
-use Rattle.ad_reply.specs.Replies.{Reply, answered}
+use Rattle.ad_reply.specs.Replies.{Reply, IsReplyOn}
 use Rattle.ad_session.specs.LookAnswers as says
 use Rattle.ad_session.specs.LookAnswers.{Looks}
 use Rattle.ad_session.specs.Answers as answers
@@ -69,10 +68,11 @@ machine_commits machine ops is =
 machine_stays : (old new : State) (i : Item) (reply : Reply) → IsMachine old → MachineAnswers old i reply new → IsMachine new
 machine_stays old new i reply is (machines.unasked asked said same) = subst IsMachine (sym same) is
 machine_stays old new i reply is (machines.unread r cause asked known unread said same) = subst IsMachine (sym same) is
-machine_stays old new i reply is (machines.queried r body asked answers eq same) = subst IsMachine (sym same) (machine_looks old is)
+machine_stays old new i reply is (machines.queried r asked answers same) = subst IsMachine (sym same) (machine_looks old is)
 machine_stays old new i reply is (machines.wanting r asked takes said same) = subst IsMachine (sym same) is
-machine_stays old new i reply is (machines.accepted r ops asked spelled free eq same) = subst IsMachine (sym same) (machine_commits old ops is)
-machine_stays old new i reply is (machines.limited_edit r ops which count asked spelled passes eq same) = subst IsMachine (sym same) is
+machine_stays old new i reply is (machines.accepted r ops asked spelled expects free eq same) = subst IsMachine (sym same) (machine_commits old ops is)
+machine_stays old new i reply is (machines.limited_edit r ops which count asked spelled expects passes eq same) = subst IsMachine (sym same) is
+machine_stays old new i reply is (machines.moved_edit r ops asked spelled moves eq same) = subst IsMachine (sym same) is
 
 pub run_stays : (old new : State) (items : List Item) (replies : List Reply) → IsMachine old → MachineRun old items replies new → IsMachine new
 run_stays old new [] [] is run = subst IsMachine (sym run) is
@@ -105,10 +105,11 @@ keeps_on a b c first then_ = record {
 answer_keeps : (old new : State) (i : Item) (reply : Reply) → MachineAnswers old i reply new → Keeps old new
 answer_keeps old new i reply (machines.unasked asked said same) = subst (Keeps old) (sym same) (keeps_itself old)
 answer_keeps old new i reply (machines.unread r cause asked known unread said same) = subst (Keeps old) (sym same) (keeps_itself old)
-answer_keeps old new i reply (machines.queried r body asked answers eq same) = subst (Keeps old) (sym same) (keeps_looks old)
+answer_keeps old new i reply (machines.queried r asked answers same) = subst (Keeps old) (sym same) (keeps_looks old)
 answer_keeps old new i reply (machines.wanting r asked takes said same) = subst (Keeps old) (sym same) (keeps_itself old)
-answer_keeps old new i reply (machines.accepted r ops asked spelled free eq same) = subst (Keeps old) (sym same) (keeps_commits old ops)
-answer_keeps old new i reply (machines.limited_edit r ops which count asked spelled passes eq same) = subst (Keeps old) (sym same) (keeps_itself old)
+answer_keeps old new i reply (machines.accepted r ops asked spelled expects free eq same) = subst (Keeps old) (sym same) (keeps_commits old ops)
+answer_keeps old new i reply (machines.limited_edit r ops which count asked spelled expects passes eq same) = subst (Keeps old) (sym same) (keeps_itself old)
+answer_keeps old new i reply (machines.moved_edit r ops asked spelled moves eq same) = subst (Keeps old) (sym same) (keeps_itself old)
 
 run_keeps : (old new : State) (items : List Item) (replies : List Reply) → MachineRun old items replies new → Keeps old new
 run_keeps old new [] [] run = subst (Keeps old) (sym run) (keeps_itself old)
@@ -141,10 +142,11 @@ grows_commits machine ops is = subst (λ (log : List Logged). IsFront (entered_b
 answer_grows : (old new : State) (i : Item) (reply : Reply) → IsMachine old → MachineAnswers old i reply new → EnteredGrows old new
 answer_grows old new i reply is (machines.unasked asked said same) = subst (EnteredGrows old) (sym same) (grows_itself old)
 answer_grows old new i reply is (machines.unread r cause asked known unread said same) = subst (EnteredGrows old) (sym same) (grows_itself old)
-answer_grows old new i reply is (machines.queried r body asked answers eq same) = subst (EnteredGrows old) (sym same) (grows_looks old is)
+answer_grows old new i reply is (machines.queried r asked answers same) = subst (EnteredGrows old) (sym same) (grows_looks old is)
 answer_grows old new i reply is (machines.wanting r asked takes said same) = subst (EnteredGrows old) (sym same) (grows_itself old)
-answer_grows old new i reply is (machines.accepted r ops asked spelled free eq same) = subst (EnteredGrows old) (sym same) (grows_commits old ops is)
-answer_grows old new i reply is (machines.limited_edit r ops which count asked spelled passes eq same) = subst (EnteredGrows old) (sym same) (grows_itself old)
+answer_grows old new i reply is (machines.accepted r ops asked spelled expects free eq same) = subst (EnteredGrows old) (sym same) (grows_commits old ops is)
+answer_grows old new i reply is (machines.limited_edit r ops which count asked spelled expects passes eq same) = subst (EnteredGrows old) (sym same) (grows_itself old)
+answer_grows old new i reply is (machines.moved_edit r ops asked spelled moves eq same) = subst (EnteredGrows old) (sym same) (grows_itself old)
 
 pub run_grows : EnteredAlwaysGrows
 run_grows old new [] [] is run = subst (EnteredGrows old) (sym run) (grows_itself old)
@@ -199,25 +201,31 @@ step_as : (old new : State) (told : List (List Logged)) (i : Item) (reply : Repl
 step_as old new told i reply is fronts (machines.unasked asked said same) = subst (λ (m : State). StepsAs old m told i reply) (sym same) (still old told i reply fronts (says.unasked asked said refl))
 step_as old new told i reply is fronts (machines.unread r cause asked known unread said same) = subst (λ (m : State). StepsAs old m told i reply) (sym same) (still old told i reply fronts (says.unread r cause asked known unread said refl))
 step_as old new told i reply is fronts (machines.wanting r asked takes said same) = subst (λ (m : State). StepsAs old m told i reply) (sym same) (still old told i reply fronts (says.wanting r asked takes said refl))
-step_as old new told i reply is fronts (machines.queried r body asked answers eq same) =
+step_as old new told i reply is fronts (machines.queried r asked answers same) =
     let whole : entered_by (after_look old) old.session ≡ old.log = entered_by-look old is.looking in
     subst (λ (m : State). StepsAs old m told i reply) (sym same)
     (looks_as old told i reply fronts
-    (says.queried r body asked (pass_looks old told is fronts) (subst (λ (log : List Logged). IsBody old.limits.depth r i.payload (replay log) body) (sym whole) answers) (eq ∙ ap (λ (log : List Logged). answered (length log) body) (sym whole))))
-step_as old new told i reply is fronts (machines.accepted r ops asked spelled free eq same) =
+    (says.queried r asked (pass_looks old told is fronts) (subst (λ (log : List Logged). IsReplyOn old.limits.depth r i.payload (length log) (replay log) reply) (sym whole) answers)))
+step_as old new told i reply is fronts (machines.accepted r ops asked spelled expects free eq same) =
     let entry = next_entry old.log (ticket_of old.session) ops in
     let log = old.log ++ entry ∷ [] in
     let on : IsFront old.log log = record { rest = entry ∷ []; is = refl } in
     subst (λ (m : State). StepsAs old m told i reply) (sym same) (record {
       told_then = told ++ log ∷ [];
       fronts = all_more log told log (all_fronts old.log log told on fronts) (front_itself log);
-      step = answers.accepted r ops old.log entry asked spelled (GoesOn-push [] old.log entry is.is_log refl) refl refl (commit_pass old told ops is) free eq;
+      step = answers.accepted r ops old.log entry asked spelled (GoesOn-push [] old.log entry is.is_log refl) refl refl (commit_pass old told ops is) expects free eq;
     })
-step_as old new told i reply is fronts (machines.limited_edit r ops which count asked spelled passes eq same) =
+step_as old new told i reply is fronts (machines.limited_edit r ops which count asked spelled expects passes eq same) =
     subst (λ (m : State). StepsAs old m told i reply) (sym same) (record {
       told_then = told ++ old.log ∷ [];
       fronts = all_more old.log told old.log fronts (front_itself old.log);
-      step = answers.limited_edit r ops old.log which count asked spelled is.is_log refl passes eq;
+      step = answers.limited_edit r ops old.log which count asked spelled is.is_log refl expects passes eq;
+    })
+step_as old new told i reply is fronts (machines.moved_edit r ops asked spelled moves eq same) =
+    subst (λ (m : State). StepsAs old m told i reply) (sym same) (record {
+      told_then = told ++ old.log ∷ [];
+      fronts = all_more old.log told old.log fronts (front_itself old.log);
+      step = answers.moved_edit r ops old.log asked spelled is.is_log refl moves eq;
     })
 
 pub runs_as : MachinesRunAsSessions

@@ -146,35 +146,35 @@ rounds_end_in step bounds other answered next end a mid now old between new same
     rounds_end step bounds answered next end a mid now old between new so reads writes (subst (λ (b : Bounds). RoundIs step b (Some end) answered next mid now between new) same round)
 
 -- items, and the edit behind them
-lost_edit : (bounds : Bounds) (depth count : ℕ) (a mid now : Flow) (items : List Item) (replies : List Reply) (ops : List Op) (p : PausesAt bounds depth count a mid items replies ops) → now.left ≡ mid.left → Loses a.left now.left (items_bytes (items ++ p.item ∷ []))
-lost_edit bounds depth count a mid now items replies ops p left =
+lost_edit : (bounds : Bounds) (depth count : ℕ) (a mid now : Flow) (items : List Item) (replies : List Reply) (ops : List Op) (expected : Option ℕ) (p : PausesAt bounds depth count a mid items replies ops expected) → now.left ≡ mid.left → Loses a.left now.left (items_bytes (items ++ p.item ∷ []))
+lost_edit bounds depth count a mid now items replies ops expected p left =
     subst (λ (l : Option (List ℕ)). Loses a.left l (items_bytes (items ++ p.item ∷ []))) (sym left) (subst (λ t. Loses a.left mid.left t) (sym (bytes_more item_bytes items p.item)) p.lost)
 
-edit_ends : (bounds : Bounds) (depth before next : ℕ) (end : Option End) (a mid now : Flow) (items : List Item) (replies : List Reply) (ops : List Op) (reply : Reply)
-    → (p : PausesAt bounds depth (before + length items) a mid items replies ops) → now.left ≡ mid.left → a.write_faults ≤ mid.write_faults → Puts mid.written now.written (wrote_of end) (reply_bytes reply) → PutCause mid.write_faults now.write_faults (wrote_of end) → bounds.requests ≤ 4294967295 → next ≡ count_after end (before + length items) → IfSome end (λ e. e ≡ ends.WriteFault)
+edit_ends : (bounds : Bounds) (depth before next : ℕ) (end : Option End) (a mid now : Flow) (items : List Item) (replies : List Reply) (ops : List Op) (expected : Option ℕ) (reply : Reply)
+    → (p : PausesAt bounds depth (before + length items) a mid items replies ops expected) → now.left ≡ mid.left → a.write_faults ≤ mid.write_faults → Puts mid.written now.written (wrote_of end) (reply_bytes reply) → PutCause mid.write_faults now.write_faults (wrote_of end) → bounds.requests ≤ 4294967295 → next ≡ count_after end (before + length items) → IfSome end (λ e. e ≡ ends.WriteFault)
     → RoundEnds bounds end before next (before + length (items ++ p.item ∷ [])) a now (items ++ p.item ∷ []) (replies ++ reply ∷ [])
-edit_ends bounds depth before next None a mid now items replies ops reply p left later puts cause few counted fault = record {
+edit_ends bounds depth before next None a mid now items replies ops expected reply p left later puts cause few counted fault = record {
   counted = let next_is : next ≡ min (before + length items + 1) (2 ^ 32 - 1) = counted in omega (arith, length-append items (p.item ∷ []), p.in_time);
   more = let next_is : next ≡ min (before + length items + 1) (2 ^ 32 - 1) = counted in omega (arith, p.in_time);
-  lost = lost_edit bounds depth (before + length items) a mid now items replies ops p left;
+  lost = lost_edit bounds depth (before + length items) a mid now items replies ops expected p left;
   gained = gained_more a mid now replies reply p.gained puts;
 }
-edit_ends bounds depth before next (Some e) a mid now items replies ops reply p left later puts cause few counted fault =
+edit_ends bounds depth before next (Some e) a mid now items replies ops expected reply p left later puts cause few counted fault =
     subst (λ (x : End). EndsSo bounds x (before + length (items ++ p.item ∷ [])) a now (items ++ p.item ∷ []) (replies ++ reply ∷ [])) (sym fault) (record {
-      lost = lost_edit bounds depth (before + length items) a mid now items replies ops p left;
+      lost = lost_edit bounds depth (before + length items) a mid now items replies ops expected p left;
       gained = gained_front a mid now replies reply p.gained puts;
       rose = rose_since a.write_faults mid.write_faults now.write_faults later (cause.failed refl);
     })
 
 -- items up to an edit, and the edit's reply or a front of it
-pub round_of_edit : {P : Type 0} (step : P → Item → Reply → P → Type 0) (bounds : Bounds) (depth before next : ℕ) (end : Option End) (a mid now : Flow) (old between new : P) (items : List Item) (replies : List Reply) (ops : List Op) (reply : Reply)
-    → AreItems bounds before items → Steps step old items replies between → (p : PausesAt bounds depth (before + length items) a mid items replies ops) → step between p.item reply new
+pub round_of_edit : {P : Type 0} (step : P → Item → Reply → P → Type 0) (bounds : Bounds) (depth before next : ℕ) (end : Option End) (a mid now : Flow) (old between new : P) (items : List Item) (replies : List Reply) (ops : List Op) (expected : Option ℕ) (reply : Reply)
+    → AreItems bounds before items → Steps step old items replies between → (p : PausesAt bounds depth (before + length items) a mid items replies ops expected) → step between p.item reply new
     → now.left ≡ mid.left → a.write_faults ≤ mid.write_faults → Puts mid.written now.written (wrote_of end) (reply_bytes reply) → PutCause mid.write_faults now.write_faults (wrote_of end) → bounds.requests ≤ 4294967295 → next ≡ count_after end (before + length items) → IfSome end (λ e. e ≡ ends.WriteFault)
     → RoundIs step bounds end before next a now old new
-round_of_edit step bounds depth before next end a mid now old between new items replies ops reply are run p answers left later puts cause few counted fault = record {
+round_of_edit step bounds depth before next end a mid now old between new items replies ops expected reply are run p answers left later puts cause few counted fault = record {
   items = items ++ p.item ∷ [];
   replies = replies ++ reply ∷ [];
   items_are = items_more bounds before items p.item are p.edit.is p.in_time;
   run = steps_more step old between new items replies p.item reply run answers;
-  ends = edit_ends bounds depth before next end a mid now items replies ops reply p left later puts cause few counted fault;
+  ends = edit_ends bounds depth before next end a mid now items replies ops expected reply p left later puts cause few counted fault;
 }

@@ -1,10 +1,11 @@
 -- What a round does to a machine.
-use Rattle.std.proofs.Common.{◌≡◌, ◌≤◌, ℕ, Option, None, Some, IfSome, Result, Ok, Err, IfOk, OnOk, IfErr, OnErr, IsOk, refl, sym, ◌∙◌, ap, subst}
+use Rattle.std.proofs.Common.{◌≡◌, ◌≤◌, ℕ, Option, None, Some, IfSome, Result, Ok, Err, IfOk, OnOk, IfErr, OnErr, IsOk, IsFalse, length, refl, sym, ◌∙◌, ap, subst}
 use Rattle.ad_base.specs.declared.limits.Limits.{Limits}
 use Rattle.ad_io.specs.Sink.{Puts, PutCause}
 use Rattle.ad_items.specs.Items.{Bounds, bounds_of, Item}
 use Rattle.ad_tree.specs.declared.edits.Op.{Op}
 use Rattle.std.specs.Prelude.{List}
+use Rattle.ad_edition.specs.Limit.{is_moved}
 use Rattle.ad_edition.specs.State.{State, IsMachine, after_commit, first_passed, IsRefusalOf, receipt_after}
 use Rattle.ad_edition.specs.declared.receipts.Receipt.{Receipt}
 use Rattle.ad_edition.specs.declared.receipts.Refused.{Refused}
@@ -42,29 +43,30 @@ round_ends limits n answered end a b old new of t talk =
     }
 
 -- what a commit does, whatever its answer
-pub record Commits (machine : State) (session : ℕ) (ops : List Op) (outcome : Result Receipt Refused) (new : State) : Type 0 where
+pub record Commits (machine : State) (session : ℕ) (ops : List Op) (expected : Option ℕ) (outcome : Result Receipt Refused) (new : State) : Type 0 where
   pub accepted : OnOk outcome (new ≡ after_commit machine session ops)
   pub receipt : IfOk outcome (λ receipt. receipt ≡ receipt_after machine ops)
+  pub expected_so : IsOk outcome → IsFalse (is_moved expected (length machine.log))
   pub within : IsOk outcome → first_passed machine ops ≡ None
-  pub refused : IfErr outcome (λ cause. IsRefusalOf machine ops cause)
+  pub refused : IfErr outcome (λ cause. IsRefusalOf machine expected ops cause)
   pub unchanged : OnErr outcome (new ≡ machine)
 
-commit_answers : (machine : State) (bounds : Bounds) (i : Item) (ops : List Op) (outcome : Result Receipt Refused) (new : State) → IsEdit bounds machine.limits.depth i ops → Commits machine machine.session ops outcome new → MachineAnswers machine i (outcome_reply outcome) new
-commit_answers machine bounds i ops (Ok receipt) new edit c = commit_accepted machine edit.request i ops receipt new edit.asked edit.spelled (c.within refl) c.receipt c.accepted
-commit_answers machine bounds i ops (Err cause) new edit c = commit_refused machine edit.request i ops cause new edit.asked edit.spelled c.refused c.unchanged
+commit_answers : (machine : State) (bounds : Bounds) (i : Item) (ops : List Op) (expected : Option ℕ) (outcome : Result Receipt Refused) (new : State) → IsEdit bounds machine.limits.depth i ops expected → Commits machine machine.session ops expected outcome new → MachineAnswers machine i (outcome_reply outcome) new
+commit_answers machine bounds i ops expected (Ok receipt) new edit c = commit_accepted machine edit.request i ops receipt new edit.asked edit.spelled (subst (λ e. IsFalse (is_moved e (length machine.log))) edit.expects (c.expected_so refl)) (c.within refl) c.receipt c.accepted
+commit_answers machine bounds i ops expected (Err cause) new edit c = commit_refused machine edit.request i ops cause new edit.asked edit.spelled (subst (λ e. IsRefusalOf machine e ops cause) edit.expects c.refused) c.unchanged
 
 -- a round up to an edit
-pub round_edits : (limits : Limits) (n answered next : ℕ) (ops : List Op) (outcome : Result Receipt Refused) (end : Option End) (a b c : Flow) (old machine new : State) → limits ≡ old.limits → old.limits.requests ≤ 4294967295 → Talked old machine
-    → TalkIs (bounds_of limits) limits.depth (footing_of old) (pauses.Edit ops) n answered a b (sight_of old) (sight_of machine) → Commits machine machine.session ops outcome new
+pub round_edits : (limits : Limits) (n answered next : ℕ) (ops : List Op) (expected : Option ℕ) (outcome : Result Receipt Refused) (end : Option End) (a b c : Flow) (old machine new : State) → limits ≡ old.limits → old.limits.requests ≤ 4294967295 → Talked old machine
+    → TalkIs (bounds_of limits) limits.depth (footing_of old) (pauses.Edit ops expected) n answered a b (sight_of old) (sight_of machine) → Commits machine machine.session ops expected outcome new
     → c.left ≡ b.left → a.write_faults ≤ b.write_faults → Puts b.written c.written (wrote_of end) (reply_bytes (outcome_reply outcome)) → PutCause b.write_faults c.write_faults (wrote_of end) → next ≡ count_after end answered → IfSome end (λ e. e ≡ ends.WriteFault)
     → RoundIs MachineAnswers (bounds_of old.limits) end n next a c old new
-round_edits limits n answered next ops outcome end a b c old machine new of few t talk commits left later puts cause counted fault =
-    let so = subst (λ (l : Limits). TalkIs (bounds_of l) l.depth (footing_of old) (pauses.Edit ops) n answered a b (sight_of old) (sight_of machine)) of talk in
+round_edits limits n answered next ops expected outcome end a b c old machine new of few t talk commits left later puts cause counted fault =
+    let so = subst (λ (l : Limits). TalkIs (bounds_of l) l.depth (footing_of old) (pauses.Edit ops expected) n answered a b (sight_of old) (sight_of machine)) of talk in
     let pause = so.pauses.0 in
-    let read = subst (λ (l : Limits). IsEdit (bounds_of old.limits) l.depth pause.item ops) (sym t.limits) pause.edit in
-    round_of_edit MachineAnswers (bounds_of old.limits) old.limits.depth n next end a b c old machine new so.items so.replies ops (outcome_reply outcome) so.items_are
+    let read = subst (λ (l : Limits). IsEdit (bounds_of old.limits) l.depth pause.item ops expected) (sym t.limits) pause.edit in
+    round_of_edit MachineAnswers (bounds_of old.limits) old.limits.depth n next end a b c old machine new so.items so.replies ops expected (outcome_reply outcome) so.items_are
     (talked_run old machine so.items so.replies t.before t.after t.footing t.limits so.run)
-    pause (commit_answers machine (bounds_of old.limits) pause.item ops outcome new read commits) left later puts cause few (counted ∙ ap (count_after end) so.pauses.1) fault
+    pause (commit_answers machine (bounds_of old.limits) pause.item ops expected outcome new read commits) left later puts cause few (counted ∙ ap (count_after end) so.pauses.1) fault
 
 -- a session from this machine
 pub session_from : (first given new : State) (end : End) (a b : Flow) → first ≡ given → SessionIs MachineAnswers (bounds_of first.limits) end a b first new → SessionIs MachineAnswers (bounds_of given.limits) end a b given new

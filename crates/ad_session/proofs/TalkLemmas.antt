@@ -1,5 +1,5 @@
 -- A talk goes on item by item.
-use Rattle.std.proofs.Common.{◌≡◌, inl, inr, ◌<◌, ◌≤◌, ◌+◌, ℕ, List, [], ◌∷◌, ◌++◌, length, refl, sym, ◌∙◌, ap, subst, arith, length-append}
+use Rattle.std.proofs.Common.{Option, ◌≡◌, inl, inr, ◌<◌, ◌≤◌, ◌+◌, ℕ, List, [], ◌∷◌, ◌++◌, length, refl, sym, ◌∙◌, ap, subst, arith, length-append}
 use Rattle.std.specs.List.{AllByRecursion, flat_map}
 use Rattle.std.proofs.lemmas.List.{append-nil}
 use Rattle.std.proofs.lemmas.Grind.{flat_map-append}
@@ -99,8 +99,8 @@ talked_more_on bounds depth footing other n answered a mid now old sight new sam
     talked_more bounds depth footing n answered a mid now old sight new so few (subst (λ (f : Footing). TurnsOnce bounds depth f mid now sight new) same turn)
 
 -- an edit was read
-pub talk_pauses : (bounds : Bounds) (depth : ℕ) (footing : Footing) (n answered : ℕ) (a mid now : Flow) (old sight new : Sight) (batch : List Op) → TalkedSo bounds depth footing n answered a mid old sight → answered < bounds.requests → TurnsToEdit bounds depth mid now batch → new ≡ sight → TalkIs bounds depth footing (pauses.Edit batch) n answered a now old new
-talk_pauses bounds depth footing n answered a mid now old sight new batch so few turn seen =
+pub talk_pauses : (bounds : Bounds) (depth : ℕ) (footing : Footing) (n answered : ℕ) (a mid now : Flow) (old sight new : Sight) (batch : List Op) (expected : Option ℕ) → TalkedSo bounds depth footing n answered a mid old sight → answered < bounds.requests → TurnsToEdit bounds depth mid now batch expected → new ≡ sight → TalkIs bounds depth footing (pauses.Edit batch expected) n answered a now old new
+talk_pauses bounds depth footing n answered a mid now old sight new batch expected so few turn seen =
     let count : answered ≡ n + length so.items = so.count in
     record {
       items = so.items;

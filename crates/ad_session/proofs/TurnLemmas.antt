@@ -30,7 +30,7 @@ replied bounds depth footing i wrote.Failed before after faults now old new spea
 pub turned : (bounds : Bounds) (depth : ℕ) (footing : Footing) (i : Item) (turn : Turn) (left left' : Option (List ℕ)) (reads reads' : ℕ) (before after : Option (List ℕ)) (faults now : ℕ) (old new : Sight)
     → IsItem bounds i → Loses left left' (item_bytes i) → Replies bounds depth footing i turn before after faults now old new → TurnIs bounds depth footing turn (flow left reads before faults) (flow left' reads' after now) old new
 turned bounds depth footing i turns.Said left left' reads reads' before after faults now old new is lost r = record { item = i; reply = r.reply; is = is; says = r.says; lost = lost; gained = r.puts }
-turned bounds depth footing i (turns.Edit batch) left left' reads reads' before after faults now old new is lost r = (record { item = i; edit = r.0; lost = lost; gained = r.1 }, r.2)
+turned bounds depth footing i (turns.Edit batch expected) left left' reads reads' before after faults now old new is lost r = (record { item = i; edit = r.0; lost = lost; gained = r.1 }, r.2)
 turned bounds depth footing i (turns.Ended ends.WriteFault) left left' reads reads' before after faults now old new is lost r = record { item = i; reply = r.0.reply; is = is; says = r.0.says; lost = lost; gained = r.0.puts; rose = r.1 }
 turned bounds depth footing i (turns.Ended ends.Quit) left left' reads reads' before after faults now old new is lost r = absurd r
 turned bounds depth footing i (turns.Ended ends.Closed) left left' reads reads' before after faults now old new is lost r = absurd r
@@ -50,7 +50,7 @@ unasked_turn bounds depth footing payload w left left' reads reads' before after
 -- a request with a payload may want memory
 sized_takes : (request : Request) → 0 < payload_size request → TakesMemory request
 sized_takes (Load n) more = tt
-sized_takes (Edit n) more = tt
+sized_takes (Edit n expected) more = tt
 sized_takes (Module k n) more = tt
 sized_takes (Genuine k n) more = tt
 sized_takes (Atoms k) more = omega arith

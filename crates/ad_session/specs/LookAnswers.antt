@@ -8,8 +8,7 @@ use Rattle.ad_edition.specs.Log.{replay}
 use Rattle.ad_edition.specs.Sight.{Sight, Footing, Enters, Reaches}
 use Rattle.ad_read.specs.declared.texts.ReadRefused.{ReadRefused}
 use Rattle.ad_read.specs.declared.texts.ReadRefused.TheVariants.{Memory}
-use Rattle.ad_reply.specs.Replies.{Reply, answered, no_request, unread_text, no_memory, shut}
-use Rattle.ad_reply.specs.Bodies.{IsBody}
+use Rattle.ad_reply.specs.Replies.{Reply, IsReplyOn, no_request, unread_text, no_memory, shut}
 use Rattle.ad_session.specs.Asked.{SpellsQuery, TakesMemory, IsUnread}
 
 -- a look that didn't fail
@@ -24,7 +23,7 @@ pub data LookAnswers (depth : ℕ) (footing : Footing) (old : Sight) (i : Item) 
   -- the payload is refused for a cause, which the reply names
   unread : (request : Request) (cause : ReadRefused) → i.asked ≡ Some request → cause ≢ Memory → IsUnread depth request i.payload cause → reply ≡ unread_text cause → new ≡ old → LookAnswers depth footing old i reply new
   -- a query, answered on the edition of the log that the session then enters
-  queried : (request : Request) (body : List ℕ) → i.asked ≡ Some request → Looks footing old new → IsBody depth request i.payload (replay new.entered) body → reply ≡ answered (length new.entered) body → LookAnswers depth footing old i reply new
+  queried : (request : Request) → i.asked ≡ Some request → Looks footing old new → IsReplyOn depth request i.payload (length new.entered) (replay new.entered) reply → LookAnswers depth footing old i reply new
   -- memory is wanting for the payload, or for what it says
   wanting : (request : Request) → i.asked ≡ Some request → TakesMemory request → reply ≡ no_memory → new ≡ old → LookAnswers depth footing old i reply new
   -- the look for a query that was read failed for want of memory

@@ -11,7 +11,7 @@ use Rattle.ad_edition.specs.Sight.{Sight, Footing}
 use Rattle.ad_edition.specs.declared.receipts.Receipt.{Receipt}
 use Rattle.ad_edition.specs.declared.receipts.Refused.{Refused}
 use Rattle.ad_edition.specs.declared.receipts.Refused.TheVariants as refusals
-use Rattle.ad_reply.specs.Replies.{Reply, reply_bytes, accepted, limited, no_memory}
+use Rattle.ad_reply.specs.Replies.{Reply, reply_bytes, accepted, limited, moved, no_memory}
 use Rattle.ad_edition.specs.declared.look.NoLook.{NoLook}
 use Rattle.ad_edition.specs.declared.look.NoLook.TheVariants as looks
 use Rattle.ad_reply.specs.declared.refusal.Refusal.{Refusal}
@@ -40,9 +40,9 @@ pub record TurnsOnce (bounds : Bounds) (depth : ℕ) (footing : Footing) (a b : 
   pub gained : Gains a.written b.written (reply_bytes reply)
 
 -- an edit was read
-pub record TurnsToEdit (bounds : Bounds) (depth : ℕ) (a b : Flow) (ops : List Op) : Type 0 where
+pub record TurnsToEdit (bounds : Bounds) (depth : ℕ) (a b : Flow) (ops : List Op) (expected : Option ℕ) : Type 0 where
   pub item : Item
-  pub edit : IsEdit bounds depth item ops
+  pub edit : IsEdit bounds depth item ops expected
   pub lost : Loses a.left b.left (item_bytes item)
   pub gained : Gains a.written b.written []
 
@@ -80,13 +80,13 @@ EndsTurn bounds depth footing ends.WriteFault a b old new = TurnsToFault bounds 
 
 abbrev pub TurnIs : Bounds → ℕ → Footing → Turn → Flow → Flow → Sight → Sight → Type 0
 TurnIs bounds depth footing turns.Said a b old new = TurnsOnce bounds depth footing a b old new
-TurnIs bounds depth footing (turns.Edit batch) a b old new = TurnsToEdit bounds depth a b batch × (new ≡ old)
+TurnIs bounds depth footing (turns.Edit batch expected) a b old new = TurnsToEdit bounds depth a b batch expected × (new ≡ old)
 TurnIs bounds depth footing (turns.Ended end) a b old new = EndsTurn bounds depth footing end a b old new
 
 -- The same for an item that was read: what was written, and what the session has seen.
 abbrev pub Replies : Bounds → ℕ → Footing → Item → Turn → Option (List ℕ) → Option (List ℕ) → ℕ → ℕ → Sight → Sight → Type 0
 Replies bounds depth footing i turns.Said before after faults now old new = Speaks depth footing old new i before after wrote.All
-Replies bounds depth footing i (turns.Edit batch) before after faults now old new = IsEdit bounds depth i batch × Gains before after [] × (new ≡ old)
+Replies bounds depth footing i (turns.Edit batch expected) before after faults now old new = IsEdit bounds depth i batch expected × Gains before after [] × (new ≡ old)
 Replies bounds depth footing i (turns.Ended ends.WriteFault) before after faults now old new = Speaks depth footing old new i before after wrote.Failed × Rose faults now
 Replies bounds depth footing i (turns.Ended ends.Quit) before after faults now old new = ⊥
 Replies bounds depth footing i (turns.Ended ends.Closed) before after faults now old new = ⊥
@@ -98,6 +98,7 @@ Replies bounds depth footing i (turns.Ended ends.ReadFault) before after faults 
 -- the reply of an edit that was committed or refused
 abbrev pub outcome_reply : Result Receipt Refused → Reply
 outcome_reply (Ok receipt) = accepted receipt
+outcome_reply (Err (refusals.Moved edition)) = moved edition
 outcome_reply (Err (refusals.Limit edition which count)) = limited edition which count
 outcome_reply (Err refusals.Memory) = no_memory
 

@@ -50,6 +50,7 @@ fn put_outcome<K: Sink>(outcome: Result<Receipt, Refused>, sink: &mut K) -> Wrot
             },
             sink,
         ),
+        Err(Refused::Moved { edition }) => refuse(Refusal::Moved { edition }, sink),
         Err(Refused::Memory) => refuse(Refusal::Memory, sink),
     }
 }

@@ -19,9 +19,9 @@ pub enum End {
     WriteFault,
 }
 
-/// Why a talk paused: an edit is to be made, or the session ended.
+/// Why a talk paused: an edit is to be made, on the edition of this number if it expects one; or the session ended.
 #[derive(Drop)]
 pub enum Pause {
-    Edit(Batch),
+    Edit(Batch, Option<u64>),
     Ended(End),
 }

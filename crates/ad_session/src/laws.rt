@@ -1,5 +1,5 @@
 ghost use Rattle.ad_session.specs.Laws.{EnteredAlwaysGrows, LooksStayEntered, MachinesRunAsSessions};
-ghost use Rattle.ad_session.specs.Complete.{LinesAreRefused, ExportIsAnswered, ModuleIsAnswered, EditIsMade, EditIsRefused, TextIsRefused};
+ghost use Rattle.ad_session.specs.Complete.{LinesAreRefused, QueriesAreAnswered, EditsAreMade, EditsAreLimited, MovedEditsAreRefused, TextsAreRefused};
 
 use ad_read::one_outcome;
 
@@ -14,11 +14,11 @@ pub fn session_laws()
 /// and each refusal has its cause.
 pub fn reply_laws()
     ensures lines { LinesAreRefused }
-    ensures export { ExportIsAnswered }
-    ensures module_ { ModuleIsAnswered }
-    ensures edit { EditIsMade }
-    ensures limits { EditIsRefused }
-    ensures texts { TextIsRefused }
+    ensures queries { QueriesAreAnswered }
+    ensures edits { EditsAreMade }
+    ensures limits { EditsAreLimited }
+    ensures moved { MovedEditsAreRefused }
+    ensures texts { TextsAreRefused }
 {
     one_outcome();
 }

@@ -11,6 +11,7 @@ pub use work::{Talk, Work};
 mod answers;
 mod ends;
 mod laws;
+mod modules;
 mod queries;
 mod sessions;
 mod talking;

@@ -12,13 +12,16 @@ use crate::ends::{End, Pause};
 use crate::talking::talk;
 use crate::work::{Talk, Work};
 use ad_core::Machine;
+use ad_gate::Gate;
 use ad_io::{Sink, Source};
+use ad_theory::Tally;
 use std::alloc::Global;
 use std::thread::Threads;
 
 /// One session of a machine: reads and answers requests until the input ends. Each query is answered on the newest
 /// edition, which the session then enters, and each accepted edit is one entry of the machine's log. It always returns.
-pub fn session<S: Source, K: Sink>(
+/// Behind the line of each request, and before the modules of an edition are found, it passes the gate.
+pub fn session<S: Source, K: Sink, G: Gate>(
     rt: &(impl Threads + Sync),
     alloc: Global,
     source: &mut S,
@@ -26,6 +29,8 @@ pub fn session<S: Source, K: Sink>(
     machine: &mut Machine,
     index: u32,
     work: &mut Work,
+    gate: &G,
+    tally: &mut Tally,
 ) -> End
     requires index { index < length machine.old.entered }
     requires work { work.old.limits ≡ machine.old.limits }
@@ -41,7 +46,17 @@ pub fn session<S: Source, K: Sink>(
     machine.attend(index);
     machine.laws();
     'rounds: loop {
-        match take_round(rt, alloc, source, sink, machine, &mut answered, work) {
+        match take_round(
+            rt,
+            alloc,
+            source,
+            sink,
+            machine,
+            &mut answered,
+            work,
+            gate,
+            tally,
+        ) {
             None => {}
             Some(end) => return end,
         }
@@ -49,7 +64,7 @@ pub fn session<S: Source, K: Sink>(
 }
 
 // Answers requests up to an edit, makes it and answers it; or up to the end.
-fn take_round<S: Source, K: Sink>(
+fn take_round<S: Source, K: Sink, G: Gate>(
     rt: &(impl Threads + Sync),
     alloc: Global,
     source: &mut S,
@@ -57,6 +72,8 @@ fn take_round<S: Source, K: Sink>(
     machine: &mut Machine,
     answered: &mut Talk,
     work: &mut Work,
+    gate: &G,
+    tally: &mut Tally,
 ) -> Option<End>
     requires looks { machine.old.session ≡ answered.old.chair }
     requires work { work.old.limits ≡ machine.old.limits }
@@ -69,14 +86,16 @@ fn take_round<S: Source, K: Sink>(
     machine.laws();
     let limits = machine.limits();
     let index = answered.chair();
-    match talk(alloc, source, sink, machine, answered, work, limits) {
+    match talk(
+        alloc, source, sink, machine, answered, work, limits, gate, tally,
+    ) {
         Pause::Ended(end) => {
             machine.laws();
             Some(end)
         }
-        Pause::Edit(batch) => {
+        Pause::Edit(batch, expected) => {
             machine.laws();
-            let outcome = machine.commit(rt, alloc, index, &batch);
+            let outcome = machine.commit(rt, alloc, index, &batch, expected, gate, tally);
             answer(sink, answered, outcome)
         }
     }

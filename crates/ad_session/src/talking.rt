@@ -9,12 +9,14 @@ use crate::turn::{Turn, take_turn};
 use crate::work::{Talk, Work};
 use ad_base::Limits;
 use ad_edition::Look;
+use ad_gate::Gate;
 use ad_io::{Sink, Source};
+use ad_theory::Tally;
 use std::alloc::Global;
 
 /// Reads and answers requests until an edit is read or the session ends. Each query that is answered is on the edition
-/// that it looks at.
-pub fn talk<S: Source, K: Sink, L: Look>(
+/// that it looks at. Behind the line of each request it passes the gate. The tally counts what was done for modules.
+pub fn talk<S: Source, K: Sink, L: Look, G: Gate>(
     alloc: Global,
     source: &mut S,
     sink: &mut K,
@@ -22,6 +24,8 @@ pub fn talk<S: Source, K: Sink, L: Look>(
     talk: &mut Talk,
     work: &mut Work,
     limits: Limits,
+    gate: &G,
+    tally: &mut Tally,
 ) -> Pause
     requires standard { AreWithinStandard limits }
     requires work { work.old.limits ≡ L.limits look.old }
@@ -34,9 +38,10 @@ pub fn talk<S: Source, K: Sink, L: Look>(
     ensures writes { K.faults sink.old ≤ K.faults sink.new }
 {
     'turns: while talk.answered < limits.requests {
-        match take_turn(alloc, source, sink, look, work, limits) {
+        let point = talk.point();
+        match take_turn(alloc, source, sink, look, work, limits, gate, point, tally) {
             Turn::Said => talk.answered += 1,
-            Turn::Edit(batch) => return Pause::Edit(batch),
+            Turn::Edit(batch, expected) => return Pause::Edit(batch, expected),
             Turn::Ended(end) => return Pause::Ended(end),
         }
     }

@@ -4,9 +4,10 @@ ghost use Rattle.ad_reply.specs.Written.{AreToolsOf};
 
 use ad_base::{Limits, Memory};
 use ad_edition::Bench;
+use ad_gate::Point;
 use ad_items::Line;
 use ad_module_document::Room;
-use ad_theory::{Extractor, Tally};
+use ad_theory::Extractor;
 use std::alloc::Global;
 
 /// Counts the requests that a session has answered.
@@ -31,6 +32,14 @@ impl Talk {
         self.chair
     }
 
+    // The point at which the next request passes the gate.
+    pub(crate) fn point(&self) -> Point {
+        Point::Request {
+            chair: self.chair,
+            number: self.answered,
+        }
+    }
+
     /// How many requests were answered.
     pub fn answered(&self) -> u32
         ensures { result ≡ self.now.answered }
@@ -39,12 +48,11 @@ impl Talk {
     }
 }
 
-// What finds modules, where they are found, and how much was done for them.
+// What finds modules, and where they are found.
 #[derive(Drop)]
 pub(crate) struct Tools<E: Extractor> {
     pub(crate) bench: E,
     pub(crate) room: Room,
-    pub(crate) tally: Tally,
 }
 
 impl<E: Extractor> Tools<E> {
@@ -57,7 +65,6 @@ impl<E: Extractor> Tools<E> {
         Ok(Tools {
             bench: E::make(alloc, limits)?,
             room,
-            tally: Tally::new(),
         })
     }
 }

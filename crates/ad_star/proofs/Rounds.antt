@@ -5,7 +5,7 @@ use Rattle.ad_bits.proofs.Rows.{member_count-subset}
 use Rattle.ad_theory.specs.Module.{Logic, IsAntitone, IsModule, IsFixed, IsStar}
 use Rattle.ad_theory.specs.Alternation.{IsAboveStar}
 use Rattle.ad_theory.proofs.Members.{not_both}
-use Rattle.ad_theory.proofs.ModuleLemmas.{same_test, same_ontology, own}
+use Rattle.ad_theory.proofs.ModuleLemmas.{same_test, same_ontology, own, fixed_within}
 use Rattle.ad_theory.proofs.StarLemmas.{left_module}
 
 -- a subset that is not the whole has fewer members
@@ -35,3 +35,22 @@ star_of within bottom top w = record { within = within; bottom = bottom; top = t
 -- a module of all that is live, looked for among all numbers
 pub whole_module : {L : Logic ℕ ℕ} {seed : ℕ → Bool} {O : ℕ → Type 0} {X M S : ℕ → Bool} → ((i : ℕ) → O i → IsTrue (X i)) → IsModule L seed (λ i. O i × IsTrue (X i)) M S → IsModule L seed O M S
 whole_module whole m = same_ontology (λ i o. o.0) (λ i o. (o, whole i o)) m
+
+-- a module of a part of O contains what is its own module on both sides
+pub above_module : {A E : Type 0} {B T : Logic A E} {seed : E → Bool} {O : A → Type 0} {M : A → Bool} {S : E → Bool} → IsModule B seed O M S → IsAboveStar B T seed O M
+above_module m = record { above = λ N part f g. fixed_within f part m }
+
+-- a module of what is left of a part of O
+pub part_module : {A E : Type 0} {L : Logic A E} {seed : E → Bool} {O P : A → Type 0} {X M : A → Bool} {S : E → Bool} → ((a : A) → IsTrue (X a) → P a)
+    → IsModule L seed (λ a. O a × IsTrue (X a)) M S → IsModule L seed (λ a. (O a × P a) × IsTrue (X a)) M S
+part_module part m = same_ontology (λ a o. ((o.0, part a o.1), o.1)) (λ a o. (o.0.0, o.1)) m
+
+-- the star module of a part of O that contains the star module
+pub star_of_above : {A E : Type 0} {B T : Logic A E} {seed : E → Bool} {O : A → Type 0} {X M : A → Bool} → IsAboveStar B T seed O X
+    → IsStar B T seed (λ a. O a × IsTrue (X a)) M → IsStar B T seed O M
+star_of_above w m = record {
+  within = λ a t. (m.within a t).0;
+  bottom = m.bottom;
+  top = m.top;
+  greatest = λ N part f g. m.greatest N (λ a t. (part a t, w.above N part f g a t)) f g;
+}

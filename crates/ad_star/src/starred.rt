@@ -35,8 +35,8 @@ fn full_row(alloc: Global, size: u32) -> Result<Row, Memory>
     Ok(row)
 }
 
-// Puts the star module into `out`: of what is in `start` the bottom module, the top module of it, and so on, until nothing
-// changes. `found` is room.
+// Puts the star module of the live slots in `start` into `out`: of those the bottom module, the top module of it, and so
+// on, until nothing changes. `found` is room.
 fn alternate<U: Universe, H: Half>(
     half: &mut H,
     found: &mut Row,
@@ -51,12 +51,10 @@ fn alternate<U: Universe, H: Half>(
     requires found { length found.old ≡ U.slot_count universe.now }
     requires seed { length seed.now ≡ U.symbol_count universe.now }
     requires start { length start.now ≡ U.slot_count universe.now }
-    requires above { IsAboveStar (logic_of (U.symbols_of universe.now) (U.is_local universe.now Bottom))
-        (logic_of (U.symbols_of universe.now) (U.is_local universe.now Top)) (has seed.now) (λ i. IsTrue (U.is_live universe.now i)) (has start.now) }
     requires out { length out.old ≡ U.slot_count universe.now }
     requires closure { length closure.old ≡ U.symbol_count universe.now }
     ensures found { IsNumberedModule Star (U.symbols_of universe.now) (U.is_local universe.now) (has seed.now)
-        (λ i. IsTrue (U.is_live universe.now i)) (has out.new) (has closure.new) }
+        (λ i. IsTrue (U.is_live universe.now i) × IsTrue (has start.now i)) (has out.new) (has closure.new) }
     ensures counted { tally.old.tests ≤ tally.new.tests }
     ensures runs { tally.new.runs ≡ tally.old.runs }
     ensures room { length found.new ≡ length found.old }
@@ -110,6 +108,43 @@ impl<H: Half> Starred<H> {
         requires closure { length closure.old ≡ U.symbol_count universe.now }
         ensures found { IsNumberedModule Star (U.symbols_of universe.now) (U.is_local universe.now) (has seed.now)
             (λ i. IsTrue (U.is_live universe.now i)) (has out.new) (has closure.new) }
+        ensures counted { tally.old.tests ≤ tally.new.tests }
+        ensures runs { IsRaisedBy 1 tally.old.runs tally.new.runs }
+        ensures out { length out.new ≡ length out.old }
+        ensures closure { length closure.new ≡ length closure.old }
+        ensures limits { ⟦<Starred<H> as Extractor>⟧.made_for self.new ≡ ⟦<Starred<H> as Extractor>⟧.made_for self.old }
+    {
+        tally.count_run();
+        alternate(
+            &mut self.half,
+            &mut self.found,
+            universe,
+            seed,
+            start,
+            out,
+            closure,
+            tally,
+        );
+    }
+
+    /// Puts the star module for `seed` of the live slots in `start` into `out`, and the seed with the module's symbols
+    /// into `closure`.
+    pub fn star_of_part<U: Universe>(
+        &mut self,
+        universe: &U,
+        seed: &Row,
+        start: &Row,
+        out: &mut Row,
+        closure: &mut Row,
+        tally: &mut Tally,
+    )
+        requires limits { AreSizesOf (⟦<Starred<H> as Extractor>⟧.made_for self.old) (U.slot_count universe.now) (U.symbol_count universe.now) }
+        requires seed { length seed.now ≡ U.symbol_count universe.now }
+        requires start { length start.now ≡ U.slot_count universe.now }
+        requires out { length out.old ≡ U.slot_count universe.now }
+        requires closure { length closure.old ≡ U.symbol_count universe.now }
+        ensures found { IsNumberedModule Star (U.symbols_of universe.now) (U.is_local universe.now) (has seed.now)
+            (λ i. IsTrue (U.is_live universe.now i) × IsTrue (has start.now i)) (has out.new) (has closure.new) }
         ensures counted { tally.old.tests ≤ tally.new.tests }
         ensures runs { IsRaisedBy 1 tally.old.runs tally.new.runs }
         ensures out { length out.new ≡ length out.old }

@@ -68,18 +68,34 @@ impl Rows {
         self.bottom.len() as u32
     }
 
+    // The slots' rows of the kind.
+    fn of_kind(&self, kind: Kind) -> &[Option<Arc<Row>>]
+        ensures { rows_in result.now ≡ of_kind self.now kind }
+    {
+        match kind {
+            Kind::Bottom => &self.bottom,
+            Kind::Top => &self.top,
+            Kind::Star => &self.star,
+        }
+    }
+
     /// The row of the kind of a slot; None exactly where it has none.
     pub fn row(&self, kind: Kind, slot: u32) -> Option<&Row>
         ensures { option_map (λ row. row.now) result ≡ row_of self.now kind slot }
     {
-        let rows = match kind {
-            Kind::Bottom => &self.bottom,
-            Kind::Top => &self.top,
-            Kind::Star => &self.star,
-        };
-        match rows.get(slot as usize) {
+        match self.of_kind(kind).get(slot as usize) {
             Some(Some(row)) => Some(row),
             _ => None,
+        }
+    }
+
+    /// The row of the kind of a slot, shared with these rows; None exactly where it has none.
+    pub fn share(&self, kind: Kind, slot: u32) -> Result<Option<Arc<Row>>, Memory>
+        ensures { IfOk result (λ row. option_map (λ row. arc_value row) row ≡ row_of self.now kind slot) }
+    {
+        match self.of_kind(kind).get(slot as usize) {
+            Some(Some(row)) => Ok(Some(Arc::try_clone(row)?)),
+            _ => Ok(None),
         }
     }
 

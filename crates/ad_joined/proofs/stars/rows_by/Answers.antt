@@ -6,10 +6,9 @@ use Rattle.std.specs.declared.sync.Arc.{Arc}
 use Rattle.std.proofs.lemmas.List.{take_more, map-append}
 use Rattle.std.proofs.lemmas.Slice.Zip.{all_zipped_more}
 use Rattle.ad_base.specs.declared.limits.Kind.TheVariants.{Star}
-use Rattle.ad_base.specs.declared.limits.Limits.{Limits}
 use Rattle.ad_base.specs.declared.limits.Side.TheVariants.{Bottom, Top}
 use Rattle.ad_groups.specs.GenuineRows.{IsGenuineRow}
-use Rattle.ad_theory.specs.Numbers.{logic_of, AreSizesOf}
+use Rattle.ad_theory.specs.Numbers.{logic_of}
 use Rattle.ad_joined.specs.Searched.{IsSideRow}
 use Rattle.ad_joined.proofs.CommonLemmas.{zip_at, zip_long}
 use Rattle.ad_joined.proofs.stars.rows_by.Goals as goal
@@ -24,19 +23,14 @@ row_at-requires-in-loop-at g c =
     let long = zip_long _ c.args.slots.now (map (λ row. arc_value row) c.args.top.now) c.requires.top in
     omega (arith, long, c.loop-at-test.true)
 
-pub find-requires-clause-limits : goal.find-requires-clause-limits
-find-requires-clause-limits g c =
-    let u = c.args.universe.now in
-    subst (λ (l : Limits). AreSizesOf l (g.U.Universe.slot_count u) (g.U.Universe.symbol_count u)) (sym c.loop-at.invariant.limits) c.requires.limits
-
-pub find-requires-clause-bottom : goal.find-requires-clause-bottom
-find-requires-clause-bottom g c =
+pub row-requires-clause-bottom : goal.row-requires-clause-bottom
+row-requires-clause-bottom g c =
     let u = c.args.universe.now in
     let R = IsSideRow (logic_of (g.U.Universe.symbols_of u) (g.U.Universe.is_local u Bottom)) (g.U.Universe.is_live u) (g.U.Universe.slot_count u) in
     subst (R (get_or c.args.slots.now c.loop-at.at 0)) (sym c.row_at.ensures) (zip_at R c.args.slots.now (map (λ row. arc_value row) c.args.bottom.now) c.loop-at.at 0 [] c.requires.bottom c.loop-at-test.true)
 
-pub find-requires-clause-top : goal.find-requires-clause-top
-find-requires-clause-top g c =
+pub row-requires-clause-top : goal.row-requires-clause-top
+row-requires-clause-top g c =
     let u = c.args.universe.now in
     let R = IsSideRow (logic_of (g.U.Universe.symbols_of u) (g.U.Universe.is_local u Top)) (g.U.Universe.is_live u) (g.U.Universe.slot_count u) in
     subst (R (get_or c.args.slots.now c.loop-at.at 0)) (sym c.row_at-in-loop-at.ensures) (zip_at R c.args.slots.now (map (λ row. arc_value row) c.args.top.now) c.loop-at.at 0 [] c.requires.top c.loop-at-test.true)
@@ -47,22 +41,18 @@ loop-at-preserved g c =
     let slots = c.args.slots.now in
     let i = c.loop-at.at in
     let v = c.loop-at.invariant in
-    let e = c.find.ensures in
+    let e = c.in_ok-row.ensures in
     let arc = c.in_ok-row.row in
     let slot = get_or slots i 0 in
     let R = IsGenuineRow (g.U.Universe.symbols_of u) (g.U.Universe.is_local u) (g.U.Universe.is_live u) (g.U.Universe.slot_count u) Star in
     let value = λ (row : Arc (List Bool) Global). arc_value row in
     let pushed : c.push.new.self.items ≡ c.loop-at.rows.items ++ arc ∷ [] = search rules in
-    let rows : map value c.push.new.self.items ≡ map value c.loop-at.rows.items ++ c.find.new.self.out ∷ [] =
-    ap (map value) pushed ∙ map-append value c.loop-at.rows.items (arc ∷ []) ∙ ap (λ r. map value c.loop-at.rows.items ++ r ∷ []) c.in_ok-row.ensures in
+    let rows : map value c.push.new.self.items ≡ map value c.loop-at.rows.items ++ value arc ∷ [] =
+    ap (map value) pushed ∙ map-append value c.loop-at.rows.items (arc ∷ []) in
     record {
       found = subst (λ l. AllZip R l (map value c.push.new.self.items)) (sym (take_more slots i 0 c.loop-at-test.true))
-          (subst (λ r. AllZip R (take i slots ++ slot ∷ []) r) (sym rows) (all_zipped_more R (take i slots) (map value c.loop-at.rows.items) slot c.find.new.self.out v.found e.found));
-      seed = e.seed;
-      closure = e.closure;
-      start = e.start;
-      out = e.out;
-      limits = e.limits ∙ v.limits;
+          (subst (λ r. AllZip R (take i slots ++ slot ∷ []) r) (sym rows) (all_zipped_more R (take i slots) (map value c.loop-at.rows.items) slot (arc_value arc) v.found e.found));
+      stars = e.stars;
       counted = omega (arith, e.counted, v.counted);
       runs = elim e.runs [
         | inl r ↦ omega (arith, r, v.runs)

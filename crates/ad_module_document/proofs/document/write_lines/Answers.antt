@@ -10,16 +10,17 @@ use Rattle.ad_module_document.proofs.document.write_lines.Goals as goal
 
 pub loop-i-preserved : goal.loop-i-preserved
 loop-i-preserved g c =
-    let found = c.args.found.now in
+    let takes = g.C.Choice.takes c.args.choice.now in
+    let ontology = c.args.ontology.now in
     let i = c.loop-i.i in
     let noted = c.deref.result.now in
     let slot = get_or c.slots-slots.result.now i None in
-    let at = axiom_at c.axioms-axioms.result.now found.ontology.now.axioms i c.index-axioms-i.result noted c.axioms-axioms.ensures c.loop-i-test.true c.index-axioms-i.is c.deref.ensures in
-    let slot_at : slot ≡ get_or found.ontology.now.slots i None = ap (λ l. get_or l i None) c.slots-slots.ensures in
+    let at = axiom_at c.axioms-axioms.result.now ontology.axioms i c.index-axioms-i.result noted c.axioms-axioms.ensures c.loop-i-test.true c.index-axioms-i.is c.deref.ensures in
+    let slot_at : slot ≡ get_or ontology.slots i None = ap (λ l. get_or l i None) c.slots-slots.ensures in
     record {
       gained = subst (λ l. Gains (g.K.Sink.written c.args.sink.now) (g.K.Sink.written c.write_chosen.new.sink) l)
-          (sym (lines_more found c.slots_below.ensures.long i noted slot at.0 at.1 slot_at))
-          (goes_on _ _ _ (flat_map canon_line (front_of found i)) (line_in found noted slot) c.loop-i.invariant.gained c.in-All.ensures.bytes);
+          (sym (lines_more takes ontology c.slots_below.ensures.long i noted slot at.0 at.1 slot_at))
+          (goes_on _ _ _ (flat_map canon_line (front_of takes ontology i)) (line_in takes noted slot) c.loop-i.invariant.gained c.in-All.ensures.bytes);
       later = let sooner : g.K.Sink.faults c.args.sink.now ≤ g.K.Sink.faults c.loop-i.sink = c.loop-i.invariant.later in
           let later : g.K.Sink.faults c.loop-i.sink ≤ g.K.Sink.faults c.write_chosen.new.sink = c.write_chosen.ensures.cause.later in
           omega arith;
@@ -27,19 +28,21 @@ loop-i-preserved g c =
 
 pub returns-in-Failed-clause-bytes : goal.returns-in-Failed-clause-bytes
 returns-in-Failed-clause-bytes g c =
-    let found = c.args.found.now in
+    let takes = g.C.Choice.takes c.args.choice.now in
+    let ontology = c.args.ontology.now in
     let i = c.loop-i.i in
     let noted = c.deref.result.now in
     let slot = get_or c.slots-slots.result.now i None in
-    let at = axiom_at c.axioms-axioms.result.now found.ontology.now.axioms i c.index-axioms-i.result noted c.axioms-axioms.ensures c.loop-i-test.true c.index-axioms-i.is c.deref.ensures in
-    let slot_at : slot ≡ get_or found.ontology.now.slots i None = ap (λ l. get_or l i None) c.slots-slots.ensures in
-    lines_stop found c.slots_below.ensures.long i noted slot at.0 at.1 slot_at _ _ _ c.loop-i.invariant.gained c.in-Failed.ensures.bytes
+    let at = axiom_at c.axioms-axioms.result.now ontology.axioms i c.index-axioms-i.result noted c.axioms-axioms.ensures c.loop-i-test.true c.index-axioms-i.is c.deref.ensures in
+    let slot_at : slot ≡ get_or ontology.slots i None = ap (λ l. get_or l i None) c.slots-slots.ensures in
+    lines_stop takes ontology c.slots_below.ensures.long i noted slot at.0 at.1 slot_at _ _ _ c.loop-i.invariant.gained c.in-Failed.ensures.bytes
 
 pub returns-clause-bytes : goal.returns-clause-bytes
 returns-clause-bytes g c =
-    let found = c.args.found.now in
+    let takes = g.C.Choice.takes c.args.choice.now in
+    let ontology = c.args.ontology.now in
     let i = c.loop-i.i in
-    let long : length c.axioms-axioms.result.now ≡ length found.ontology.now.axioms = as_long c.axioms-axioms.result.now found.ontology.now.axioms c.axioms-axioms.ensures in
-    let last : i ≡ length found.ontology.now.axioms = omega (arith, c.loop-i-test.false, c.loop-i.auto.i-end) in
+    let long : length c.axioms-axioms.result.now ≡ length ontology.axioms = as_long c.axioms-axioms.result.now ontology.axioms c.axioms-axioms.ensures in
+    let last : i ≡ length ontology.axioms = omega (arith, c.loop-i-test.false, c.loop-i.auto.i-end) in
     subst (λ axioms. Gains (g.K.Sink.written c.args.sink.now) (g.K.Sink.written c.loop-i.sink) (flat_map canon_line axioms))
-    (front_whole found c.slots_below.ensures.long i last) c.loop-i.invariant.gained
+    (front_whole takes ontology c.slots_below.ensures.long i last) c.loop-i.invariant.gained

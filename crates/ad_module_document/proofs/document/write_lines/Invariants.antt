@@ -8,6 +8,6 @@ use Rattle.ad_module_document.proofs.document.write_lines.Given as goal
 
 abbrev pub invariant-loop-i : goal.invariant-loop-i
 invariant-loop-i g l = record {
-  gained : Gains (g.K.Sink.written l.initial.sink) (g.K.Sink.written l.sink) (flat_map canon_line (front_of l.found l.i));
+  gained : Gains (g.K.Sink.written l.initial.sink) (g.K.Sink.written l.sink) (flat_map canon_line (front_of (g.C.Choice.takes l.choice) l.ontology l.i));
   later : g.K.Sink.faults l.initial.sink ≤ g.K.Sink.faults l.sink;
 }

@@ -1,9 +1,5 @@
 -- The atoms of the rows over slots are those of the ontology.
-use Rattle.std.proofs.Common.{sym, subst}
-use Rattle.ad_decompose.specs.Decomposed.{genuine_of}
-use Rattle.ad_decomposition.specs.Atoms.{AreAtoms, AreCovers}
-use Rattle.ad_numbered.specs.Numbered.{order_of}
-use Rattle.ad_shapes.specs.Shapes.{shape_of}
+use Rattle.ad_reply.specs.Atoms.{shape_in}
 use Rattle.ad_reply.proofs.AtomLemmas.{edition_shape}
 use Rattle.ad_reply.proofs.bodies.atoms_body.Goals as goal
 
@@ -11,13 +7,8 @@ pub returns-clause-text : goal.returns-clause-text
 returns-clause-text g c =
     let edition = c.args.edition.now in
     let kind = c.args.kind in
-    let G = genuine_of edition.found kind in
-    let order = order_of edition.numbered in
-    let atomic = c.laws.ensures.decomposed.atomic kind in
-    let atoms = subst (AreAtoms G order) (sym c.atoms.ensures) atomic.atoms_are in
-    let covers = subst (λ covered. AreCovers G order covered.rows) (sym c.covers.ensures) atomic.covers_are in
     record {
-      shape = shape_of G order;
+      shape = shape_in kind edition;
       is = edition_shape kind edition c.laws.ensures c.shapes_of_slots.ensures;
-      puts = c.write_atoms.ensures.bytes G order atoms covers;
+      puts = c.put_atoms.ensures.bytes;
     }

@@ -1,4 +1,4 @@
-use Rattle.ad_request.proofs.LineLemmas.{number_found}
+use Rattle.ad_request.proofs.Reading.{number_found}
 use Rattle.ad_request.proofs.request.number_behind.Goals as goal
 
 pub returns-in-Some : goal.returns-in-Some

@@ -33,17 +33,18 @@ returns-in-Edit g c =
       footing = c.talk.ensures.footing;
       limits = c.talk.ensures.limits;
     } in
-    let commits : Commits c.talk.new.look c.chair-index.result c.in-Edit.batch c.commit-outcome.result c.commit-outcome.new.self = record {
+    let commits : Commits c.talk.new.look c.chair-index.result c.in-Edit.batch c.in-Edit.expected c.commit-outcome.result c.commit-outcome.new.self = record {
       accepted = c.commit-outcome.ensures.accepted;
       receipt = c.commit-outcome.ensures.receipt;
+      expected_so = c.commit-outcome.ensures.expected;
       within = c.commit-outcome.ensures.within;
       refused = c.commit-outcome.ensures.refused;
       unchanged = c.commit-outcome.ensures.unchanged;
     } in
-    let committed = subst (λ n. Commits c.talk.new.look n c.in-Edit.batch c.commit-outcome.result c.commit-outcome.new.self) index commits in
+    let committed = subst (λ n. Commits c.talk.new.look n c.in-Edit.batch c.in-Edit.expected c.commit-outcome.result c.commit-outcome.new.self) index commits in
     let few = c.limits-limits.ensures.standard.requests in
     record {
-      round = round_edits c.limits-limits.result c.args.answered.now.answered c.talk.new.talk.answered c.answer.new.talk.answered c.in-Edit.batch c.commit-outcome.result c.answer.result _ _ _ c.args.machine.now c.talk.new.look c.commit-outcome.new.self c.limits-limits.ensures.limits (subst (λ (l : Limits). l.requests ≤ 4294967295) c.limits-limits.ensures.limits few) talked c.in-Edit.ensures.talk committed refl c.talk.ensures.writes c.answer.ensures.bytes c.answer.ensures.cause (ap (λ (t : Talk). t.answered) c.answer.ensures.counted) c.answer.ensures.ended;
+      round = round_edits c.limits-limits.result c.args.answered.now.answered c.talk.new.talk.answered c.answer.new.talk.answered c.in-Edit.batch c.in-Edit.expected c.commit-outcome.result c.answer.result _ _ _ c.args.machine.now c.talk.new.look c.commit-outcome.new.self c.limits-limits.ensures.limits (subst (λ (l : Limits). l.requests ≤ 4294967295) c.limits-limits.ensures.limits few) talked c.in-Edit.ensures.talk committed refl c.talk.ensures.writes c.answer.ensures.bytes c.answer.ensures.cause (ap (λ (t : Talk). t.answered) c.answer.ensures.counted) c.answer.ensures.ended;
       chair = ap (λ (t : Talk). t.chair) c.answer.ensures.counted ∙ c.talk.ensures.chair;
       work = c.talk.ensures.work;
       reads = c.talk.ensures.reads;

@@ -28,7 +28,7 @@ turns-preserved g c = record {
 
 pub returns-in-Edit-clause-talk : goal.returns-in-Edit-clause-talk
 returns-in-Edit-clause-talk g c =
-    talk_pauses (bounds_of c.args.limits) c.args.limits.depth (g.L.Look.footing c.args.look.now) c.args.talk.now.answered c.turns.talk.answered _ _ _ _ _ _ c.in-Edit.batch c.turns.invariant.so c.turns-test.true c.in-Edit.ensures.turn.0 c.in-Edit.ensures.turn.1
+    talk_pauses (bounds_of c.args.limits) c.args.limits.depth (g.L.Look.footing c.args.look.now) c.args.talk.now.answered c.turns.talk.answered _ _ _ _ _ _ c.in-Edit.batch c.in-Edit.expected c.turns.invariant.so c.turns-test.true c.in-Edit.ensures.turn.0 c.in-Edit.ensures.turn.1
 
 pub returns-in-Ended-clause-talk : goal.returns-in-Ended-clause-talk
 returns-in-Ended-clause-talk g c =

@@ -12,9 +12,9 @@ invariant-rounds g l =
     let B = logic_of (g.U.Universe.symbols_of l.universe) (g.U.Universe.is_local l.universe Bottom) in
     let T = logic_of (g.U.Universe.symbols_of l.universe) (g.U.Universe.is_local l.universe Top) in
     record {
-      within : (i : ℕ) → IsTrue (has l.found i) → IsTrue (g.U.Universe.is_live l.universe i);
+      within : (i : ℕ) → IsTrue (has l.found i) → IsTrue (g.U.Universe.is_live l.universe i) × IsTrue (has l.start i);
       fixed : IsFixed B (has l.seed) (has l.found);
-      above : IsAboveStar B T (has l.seed) (λ i. IsTrue (g.U.Universe.is_live l.universe i)) (has l.found);
+      above : IsAboveStar B T (has l.seed) (λ i. IsTrue (g.U.Universe.is_live l.universe i) × IsTrue (has l.start i)) (has l.found);
       out : length l.out ≡ length l.fn.out;
       closure : length l.closure ≡ length l.fn.closure;
       room : length l.found ≡ length l.fn.found;

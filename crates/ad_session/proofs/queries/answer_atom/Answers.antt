@@ -1,0 +1,16 @@
+use Rattle.std.proofs.Common.{subst, refl}
+use Rattle.ad_io.specs.Sink.{Puts}
+use Rattle.ad_request.specs.declared.request.Request.TheVariants as requests
+use Rattle.ad_reply.specs.declared.refusal.Refusal.{Refusal}
+use Rattle.ad_reply.specs.Replies.{refused, reply_bytes}
+use Rattle.ad_session.proofs.QueryLemmas.{atom_speaks, refused_speaks}
+use Rattle.ad_session.proofs.queries.answer_atom.Goals as goal
+
+pub returns-in-Ok-clause-speaks : goal.returns-in-Ok-clause-speaks
+returns-in-Ok-clause-speaks g c depth i asked =
+    atom_speaks depth (g.L.Look.footing c.args.look.now) c.args.kind c.args.atom _ _ _ _ _ i _ _ c.put_atom.result asked (record { enters = c.in-Ok.ensures.looks.0; reaches = c.in-Ok.ensures.reaches refl; lapses = c.in-Ok.ensures.looks.1 }) c.edition.ensures (c.in-Ok.ensures.shown refl) c.put_atom.ensures.written
+
+pub returns-in-Err-clause-speaks : goal.returns-in-Err-clause-speaks
+returns-in-Err-clause-speaks g c depth i asked =
+    refused_speaks depth (g.L.Look.footing c.args.look.now) c.in-Err.cause (requests.Atom c.args.kind c.args.atom) _ _ i _ _ c.refuse.result asked tt c.in-Err.ensures.looks
+    (subst (λ (r : Refusal). Puts (g.K.Sink.written c.args.sink.now) (g.K.Sink.written c.refuse.new.sink) c.refuse.result (reply_bytes (refused r))) c.refusal_of.ensures c.refuse.ensures.bytes)
