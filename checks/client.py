@@ -509,6 +509,48 @@ def the_client_as_a_command():
         same("no file", (1, ""), command("stat", os.path.join(folder, "none.ofn"))[:2])
 
 
+# Generated ontologies
+
+
+def generated(size):
+    """Returns the axioms of the generated ontology of this size."""
+    axioms = [f"Declaration(Class(<u:C{number}>))" for number in range(size + 1)]
+    for number in range(1, size + 1):
+        axioms.append(f"SubClassOf(<u:C{number}> <u:C{number // 2}>)")
+        if number % 10 == 0:
+            axioms.append(f"EquivalentClasses(<u:C{number}> <u:D{number}>)")
+        if number % 100 == 0:
+            axioms.append(f"SubClassOf(<u:C{number}> <http://www.w3.org/2002/07/owl#Thing>)")
+    return axioms
+
+
+def printed(*words):
+    """Returns what the program prints for these words, which reads nothing."""
+    run = subprocess.run([PROGRAM, *words], stdin=subprocess.DEVNULL, capture_output=True, timeout=SECONDS)
+    same(f"the status and the note of {words}", (0, b""), (run.returncode, run.stderr))
+    return run.stdout.decode()
+
+
+@check
+def generated_documents():
+    for size in (0, 1, 9, 10, 99, 100, 101, 1000, 10000):
+        wanted = "".join(f"{line}\n" for line in ["Ontology(", *generated(size), ")"])
+        same(f"of size {size}", wanted, printed("generate", str(size)))
+
+
+@check
+def summaries_of_generated_ontologies():
+    for size in (0, 1, 10, 300):
+        with client() as session:
+            session.load(printed("generate", str(size)))
+            found, lines = session.stat(), printed("summary", str(size)).splitlines()
+            wanted = [f"axioms {found.axioms} carried {found.carried} entities {found.entities}", f"tautologies {found.tautologies}"]
+            for kind in ("bottom", "top", "star"):
+                atoms = session.atoms(kind).atoms
+                wanted.append(f"{kind} atoms {len(atoms)} covers {sum(len(atom.needs) for atom in atoms)}")
+            same(f"the summary of size {size}", wanted, lines)
+
+
 # Running
 
 

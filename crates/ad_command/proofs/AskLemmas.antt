@@ -1,11 +1,11 @@
 -- Words ask for one thing only.
-use Rattle.std.proofs.Common.{◌≡◌, ℕ, List, refl, sym, ◌∙◌, ap}
+use Rattle.std.proofs.Common.{◌≡◌, ◌⊎◌, inl, inr, ℕ, List, refl, sym, ◌∙◌, ap}
 use Rattle.ad_command.specs.declared.asked.Asked.{Asked}
-use Rattle.ad_command.specs.declared.asked.Asked.TheVariants.{Module, Atoms, Script, Nothing}
+use Rattle.ad_command.specs.declared.asked.Asked.TheVariants.{Module, Atoms, Script, Generate, Summary, Nothing}
 use Rattle.ad_base.specs.declared.limits.Kind.{Kind}
-use Rattle.ad_command.specs.Command.{Command, IsCommand, of_module, of_atoms, of_script}
+use Rattle.ad_command.specs.Command.{Command, IsCommand, IsNoCommand, of_module, of_atoms, of_script, of_generate, of_summary}
 use Rattle.ad_command.specs.Words.{workers_in}
-use Rattle.ad_command.specs.Asks.{AsksForOneThing, IsModule, IsWithWorkers}
+use Rattle.ad_command.specs.Asks.{AsksFor, AsksForOneThing, IsModule, IsWithWorkers}
 use Rattle.ad_command.proofs.CommandLemmas.{one_command}
 
 -- what a command asks for
@@ -13,6 +13,8 @@ abbrev asking : Command → Asked
 asking (of_module kind seed) = Module kind
 asking (of_atoms kind workers) = Atoms kind (workers_in workers)
 asking (of_script workers) = Script (workers_in workers)
+asking (of_generate size) = Generate size
+asking (of_summary size workers) = Summary size (workers_in workers)
 
 -- the words are those of a command that asks for this
 abbrev IsAsking : List (List ℕ) → Asked → Type 0
@@ -30,20 +32,23 @@ of_its_script words workers is = (of_script is.number, is.commanded, ap Script i
 both : (words : List (List ℕ)) (one other : Asked) → IsAsking words one → IsAsking words other → one ≡ other
 both words one other a b = a.2 ∙ ap asking (one_command words a.0 b.0 a.1 b.1) ∙ sym b.2
 
+-- it is what a command asks for; or the words are no command, and nothing is asked
+asked_by : (words : List (List ℕ)) (asked : Asked) → AsksFor words asked → IsAsking words asked ⊎ (IsNoCommand words × (asked ≡ Nothing))
+asked_by words (Module kind) is = inl (of_its_module words kind is.1)
+asked_by words (Atoms kind workers) is = inl (of_its_atoms words kind workers is)
+asked_by words (Script workers) is = inl (of_its_script words workers is)
+asked_by words (Generate size) is = inl (of_generate size, is, refl)
+asked_by words (Summary size workers) is = inl (of_summary size is.number, is.commanded, ap (Summary size) is.count)
+asked_by words Nothing is = inr (is, refl)
+
 pub one_thing : AsksForOneThing
-one_thing words (Module j) (Module k) a b = both words (Module j) (Module k) (of_its_module words j a.1) (of_its_module words k b.1)
-one_thing words (Module j) (Atoms k w) a b = both words (Module j) (Atoms k w) (of_its_module words j a.1) (of_its_atoms words k w b)
-one_thing words (Module j) (Script w) a b = both words (Module j) (Script w) (of_its_module words j a.1) (of_its_script words w b)
-one_thing words (Module j) Nothing a b = absurd (b (of_module j a.1.seed) a.1.commanded)
-one_thing words (Atoms j v) (Module k) a b = both words (Atoms j v) (Module k) (of_its_atoms words j v a) (of_its_module words k b.1)
-one_thing words (Atoms j v) (Atoms k w) a b = both words (Atoms j v) (Atoms k w) (of_its_atoms words j v a) (of_its_atoms words k w b)
-one_thing words (Atoms j v) (Script w) a b = both words (Atoms j v) (Script w) (of_its_atoms words j v a) (of_its_script words w b)
-one_thing words (Atoms j v) Nothing a b = absurd (b (of_atoms j a.number) a.commanded)
-one_thing words (Script v) (Module k) a b = both words (Script v) (Module k) (of_its_script words v a) (of_its_module words k b.1)
-one_thing words (Script v) (Atoms k w) a b = both words (Script v) (Atoms k w) (of_its_script words v a) (of_its_atoms words k w b)
-one_thing words (Script v) (Script w) a b = both words (Script v) (Script w) (of_its_script words v a) (of_its_script words w b)
-one_thing words (Script v) Nothing a b = absurd (b (of_script a.number) a.commanded)
-one_thing words Nothing (Module k) a b = absurd (a (of_module k b.1.seed) b.1.commanded)
-one_thing words Nothing (Atoms k w) a b = absurd (a (of_atoms k b.number) b.commanded)
-one_thing words Nothing (Script w) a b = absurd (a (of_script b.number) b.commanded)
-one_thing words Nothing Nothing a b = refl
+one_thing words one other a b = elim (asked_by words one a) [
+  | inl e ↦ elim (asked_by words other b) [
+    | inl f ↦ both words one other e f
+    | inr f ↦ absurd (f.0 e.0 e.1)
+  ]
+  | inr e ↦ elim (asked_by words other b) [
+    | inl f ↦ absurd (e.0 f.0 f.1)
+    | inr f ↦ e.1 ∙ sym f.1
+  ]
+]

@@ -1,6 +1,6 @@
 -- Words spell one command at most.
-use Rattle.std.proofs.Common.{◌≡◌, ℕ, suc, List, [], ◌∷◌, length, drop, get_or, map, true, refl, sym, ◌∙◌, ap, arith}
-use Rattle.std.specs.Prelude.{Option, Some, None}
+use Rattle.std.proofs.Common.{◌≡◌, ◌≤◌, ℕ, suc, List, [], ◌∷◌, length, drop, get_or, map, true, refl, sym, ◌∙◌, ap, arith}
+use Rattle.std.specs.Prelude.{Option, Some, None, decimal}
 use Rattle.std.specs.Option.{option_map}
 use Rattle.std.specs.List.{AllByRecursion, list_all}
 use Rattle.std.proofs.lemmas.Fmt.{decimal_injective}
@@ -11,9 +11,9 @@ use Rattle.ad_entity.specs.Entities.{entity}
 use Rattle.ad_entity.specs.declared.entities.EntityKind.{EntityKind}
 use Rattle.ad_entity.specs.declared.entities.EntityKind.TheVariants as kinds
 use Rattle.ad_entity.specs.declared.entities.Entity.{Entity}
-use Rattle.ad_command.specs.Command.{Command, IsCommand, IsSeedEntity, AreWorkers, reads, of_module, of_atoms, of_script, seed_word, workers_words, SpellsOneCommand}
+use Rattle.ad_command.specs.Command.{Command, IsCommand, IsSeedEntity, AreWorkers, reads, of_module, of_atoms, of_script, of_generate, of_summary, most_size, seed_word, workers_words, SpellsOneCommand}
 use Rattle.ad_command.specs.Words.{front_of, entity_kind_in, kind_in}
-use Rattle.ad_command.proofs.WordLemmas.{kind_of_word, letter}
+use Rattle.ad_command.proofs.WordLemmas.{kind_of_word, letters}
 
 -- the entity that a word names
 abbrev entity_in : List ℕ → Option Entity
@@ -62,16 +62,45 @@ one_atoms words j k v w a b =
     let number = one_number v w a.offered b.offered (ap (drop 2) same) in
     λ i. of_atoms (kind i) (number i)
 
+one_size : (m n : ℕ) → m ≤ most_size → n ≤ most_size → decimal m ≡ decimal n → m ≡ n
+one_size m n p q same = decimal_injective m n (omega (arith, p)) (omega (arith, q)) same
+
+one_generate : (words : List (List ℕ)) (m n : ℕ) → IsCommand words (of_generate m) → IsCommand words (of_generate n) → of_generate m ≡ of_generate n
+one_generate words m n a b = ap of_generate (one_size m n a.offered b.offered (ap (λ ws. get_or ws 1 []) (sym a.spelled ∙ b.spelled)))
+
+one_summary : (words : List (List ℕ)) (m n : ℕ) (v w : Option ℕ) → IsCommand words (of_summary m v) → IsCommand words (of_summary n w) → of_summary m v ≡ of_summary n w
+one_summary words m n v w a b =
+    let same = sym a.spelled ∙ b.spelled in
+    let size = one_size m n a.offered.0 b.offered.0 (ap (λ ws. get_or ws 1 []) same) in
+    let number = one_number v w a.offered.1 b.offered.1 (ap (drop 2) same) in
+    λ i. of_summary (size i) (number i)
+
 pub one_command : SpellsOneCommand
 one_command words (of_module j s) (of_module k t) a b = one_module words j k s t a b
-one_command words (of_module j s) (of_atoms k w) a b = absurd (let first : 109 ≡ 97 = ap letter (sym a.spelled ∙ b.spelled) in omega (arith, first))
-one_command words (of_module j s) (of_script w) a b = absurd (let first : 109 ≡ 115 = ap letter (sym a.spelled ∙ b.spelled) in omega (arith, first))
-one_command words (of_atoms j v) (of_module k t) a b = absurd (let first : 97 ≡ 109 = ap letter (sym a.spelled ∙ b.spelled) in omega (arith, first))
+one_command words (of_module j s) (of_atoms k w) a b = absurd (let first : 28015 ≡ 24948 = ap letters (sym a.spelled ∙ b.spelled) in omega (arith, first))
+one_command words (of_module j s) (of_script w) a b = absurd (let first : 28015 ≡ 29539 = ap letters (sym a.spelled ∙ b.spelled) in omega (arith, first))
+one_command words (of_module j s) (of_generate n) a b = absurd (let first : 28015 ≡ 26469 = ap letters (sym a.spelled ∙ b.spelled) in omega (arith, first))
+one_command words (of_module j s) (of_summary n w) a b = absurd (let first : 28015 ≡ 29557 = ap letters (sym a.spelled ∙ b.spelled) in omega (arith, first))
+one_command words (of_atoms j v) (of_module k t) a b = absurd (let first : 24948 ≡ 28015 = ap letters (sym a.spelled ∙ b.spelled) in omega (arith, first))
 one_command words (of_atoms j v) (of_atoms k w) a b = one_atoms words j k v w a b
-one_command words (of_atoms j v) (of_script w) a b = absurd (let first : 97 ≡ 115 = ap letter (sym a.spelled ∙ b.spelled) in omega (arith, first))
-one_command words (of_script v) (of_module k t) a b = absurd (let first : 115 ≡ 109 = ap letter (sym a.spelled ∙ b.spelled) in omega (arith, first))
-one_command words (of_script v) (of_atoms k w) a b = absurd (let first : 115 ≡ 97 = ap letter (sym a.spelled ∙ b.spelled) in omega (arith, first))
+one_command words (of_atoms j v) (of_script w) a b = absurd (let first : 24948 ≡ 29539 = ap letters (sym a.spelled ∙ b.spelled) in omega (arith, first))
+one_command words (of_atoms j v) (of_generate n) a b = absurd (let first : 24948 ≡ 26469 = ap letters (sym a.spelled ∙ b.spelled) in omega (arith, first))
+one_command words (of_atoms j v) (of_summary n w) a b = absurd (let first : 24948 ≡ 29557 = ap letters (sym a.spelled ∙ b.spelled) in omega (arith, first))
+one_command words (of_script v) (of_module k t) a b = absurd (let first : 29539 ≡ 28015 = ap letters (sym a.spelled ∙ b.spelled) in omega (arith, first))
+one_command words (of_script v) (of_atoms k w) a b = absurd (let first : 29539 ≡ 24948 = ap letters (sym a.spelled ∙ b.spelled) in omega (arith, first))
 one_command words (of_script v) (of_script w) a b = ap of_script (one_number v w a.offered b.offered (ap (drop 1) (sym a.spelled ∙ b.spelled)))
+one_command words (of_script v) (of_generate n) a b = absurd (let first : 29539 ≡ 26469 = ap letters (sym a.spelled ∙ b.spelled) in omega (arith, first))
+one_command words (of_script v) (of_summary n w) a b = absurd (let first : 29539 ≡ 29557 = ap letters (sym a.spelled ∙ b.spelled) in omega (arith, first))
+one_command words (of_generate m) (of_module k t) a b = absurd (let first : 26469 ≡ 28015 = ap letters (sym a.spelled ∙ b.spelled) in omega (arith, first))
+one_command words (of_generate m) (of_atoms k w) a b = absurd (let first : 26469 ≡ 24948 = ap letters (sym a.spelled ∙ b.spelled) in omega (arith, first))
+one_command words (of_generate m) (of_script w) a b = absurd (let first : 26469 ≡ 29539 = ap letters (sym a.spelled ∙ b.spelled) in omega (arith, first))
+one_command words (of_generate m) (of_generate n) a b = one_generate words m n a b
+one_command words (of_generate m) (of_summary n w) a b = absurd (let first : 26469 ≡ 29557 = ap letters (sym a.spelled ∙ b.spelled) in omega (arith, first))
+one_command words (of_summary m v) (of_module k t) a b = absurd (let first : 29557 ≡ 28015 = ap letters (sym a.spelled ∙ b.spelled) in omega (arith, first))
+one_command words (of_summary m v) (of_atoms k w) a b = absurd (let first : 29557 ≡ 24948 = ap letters (sym a.spelled ∙ b.spelled) in omega (arith, first))
+one_command words (of_summary m v) (of_script w) a b = absurd (let first : 29557 ≡ 29539 = ap letters (sym a.spelled ∙ b.spelled) in omega (arith, first))
+one_command words (of_summary m v) (of_generate n) a b = absurd (let first : 29557 ≡ 26469 = ap letters (sym a.spelled ∙ b.spelled) in omega (arith, first))
+one_command words (of_summary m v) (of_summary n w) a b = one_summary words m n v w a b
 
 -- so what they read is one thing
 pub one_input : (words : List (List ℕ)) (one other : Command) → IsCommand words one → IsCommand words other → reads one ≡ reads other

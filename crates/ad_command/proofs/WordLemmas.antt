@@ -1,5 +1,5 @@
 -- The words of a module, of atoms and of a session.
-use Rattle.std.proofs.Common.{◌≡◌, ℕ, ◌≤◌, ◌<◌, Bool, true, false, List, [], ◌∷◌, length, drop, get_or, map, codes, refl, sym, ◌∙◌, ap, subst, arith, inl, inr, ◌⊎◌, if◌then◌else◌}
+use Rattle.std.proofs.Common.{◌≡◌, ℕ, ◌≤◌, ◌<◌, ◌+◌, ◌*◌, Bool, true, false, List, [], ◌∷◌, length, drop, get_or, map, codes, refl, sym, ◌∙◌, ap, subst, arith, inl, inr, ◌⊎◌, if◌then◌else◌}
 use Rattle.std.specs.Prelude.{decimal, Option, Some, None, IfSome}
 use Rattle.std.specs.List.{AllByRecursion}
 use Rattle.std.proofs.lemmas.Fmt.{decimal_injective}
@@ -10,7 +10,7 @@ use Rattle.ad_base.specs.declared.limits.Kind.{Kind}
 use Rattle.ad_base.specs.declared.limits.Kind.TheVariants as modules
 use Rattle.ad_lex.proofs.Pieces.{bytes_same}
 use Rattle.ad_entity.specs.declared.entities.Entity.{Entity}
-use Rattle.ad_command.specs.Command.{IsCommand, IsNoCommand, IsSeedEntity, of_module, of_atoms, of_script, seed_word}
+use Rattle.ad_command.specs.Command.{IsCommand, IsNoCommand, IsSeedEntity, of_module, of_atoms, of_script, of_generate, of_summary, most_size, seed_word}
 use Rattle.ad_command.specs.Words.{are_seed_words, kind_in, seeded_kind, module_kind, NameWorkers}
 use Rattle.ad_command.specs.Asks.{IsModule}
 use Rattle.ad_command.proofs.EntityLemmas.{entities, tested}
@@ -69,22 +69,30 @@ asked_module rest kind h =
     let found = entities (drop 1 rest) is.0 in
     record { seed = found.0; commanded = module_words (codes "module" ∷ rest) kind found.0 h found.1 found.2 }
 
--- the first letter of the words
-abbrev pub letter : List (List ℕ) → ℕ
-letter words = get_or (get_or words 0 []) 0 0
+-- the first two letters of the words, as one number
+abbrev pub letters : List (List ℕ) → ℕ
+letters words = get_or (get_or words 0 []) 0 0 * 256 + get_or (get_or words 0 []) 1 0
 
 pub module_or_not : (rest : List (List ℕ)) → seeded_kind rest ≡ None → IsNoCommand (codes "module" ∷ rest)
 module_or_not rest none (of_module kind seed) is =
     let test : seeded_kind (kind_word kind ∷ map seed_word seed) ≡ kind_in (kind_word kind) = rw (tested seed is.offered) refl in
     let found : None ≡ Some kind = sym none ∙ ap (λ ws. seeded_kind (drop 1 ws)) is.spelled ∙ test ∙ kind_of_word kind in cc
-module_or_not rest none (of_atoms kind workers) is = let first : 109 ≡ 97 = ap letter is.spelled in absurd (omega (arith, first))
-module_or_not rest none (of_script workers) is = let first : 109 ≡ 115 = ap letter is.spelled in absurd (omega (arith, first))
+module_or_not rest none (of_atoms kind workers) is = absurd (let first : 28015 ≡ 24948 = ap letters is.spelled in omega (arith, first))
+module_or_not rest none (of_script workers) is = absurd (let first : 28015 ≡ 29539 = ap letters is.spelled in omega (arith, first))
+module_or_not rest none (of_generate size) is = absurd (let first : 28015 ≡ 26469 = ap letters is.spelled in omega (arith, first))
+module_or_not rest none (of_summary size workers) is = absurd (let first : 28015 ≡ 29557 = ap letters is.spelled in omega (arith, first))
 
 -- a number of workers that isn't one
 pub not_workers : (word : List ℕ) (n : ℕ) → IsNumber word n → (1 ≤ n → n ≤ 16 → ⊥) → (workers : ℕ) → 1 ≤ workers → workers ≤ 16 → word ≡ decimal workers → ⊥
 not_workers word n is out workers low high named =
     let same : n ≡ workers = decimal_injective n workers (let small = is.small in omega (arith, small)) (omega (arith, high)) (sym is.spelled ∙ named) in
     out (subst (λ m. 1 ≤ m) (sym same) low) (subst (λ m. m ≤ 16) (sym same) high)
+
+-- a number that is no size
+pub not_size : (word : List ℕ) (n : ℕ) → IsNumber word n → (n ≤ most_size → ⊥) → (size : ℕ) → size ≤ most_size → word ≡ decimal size → ⊥
+not_size word n is out size high named =
+    let same : n ≡ size = decimal_injective n size (let small = is.small in omega (arith, small)) (omega (arith, high)) (sym is.spelled ∙ named) in
+    out (subst (λ m. m ≤ most_size) (sym same) high)
 
 -- two words with a number of workers
 pub named_workers : (words : List (List ℕ)) (option word d e : List ℕ) (workers : Option ℕ) → 2 ≤ length words → length words < 3 → option ≡ get_or words 0 d → word ≡ get_or words 1 e → option ≡ codes "--workers"

@@ -3,8 +3,8 @@ use Rattle.std.specs.Prelude.{◌≡◌, ℕ, ◌≤◌, List, Option, Some}
 use Rattle.ad_base.specs.declared.limits.Kind.{Kind}
 use Rattle.ad_entity.specs.declared.entities.Entity.{Entity}
 use Rattle.ad_command.specs.declared.asked.Asked.{Asked}
-use Rattle.ad_command.specs.declared.asked.Asked.TheVariants.{Module, Atoms, Script, Nothing}
-use Rattle.ad_command.specs.Command.{Command, IsCommand, IsNoCommand, a_document, of_module, of_atoms, of_script, reads}
+use Rattle.ad_command.specs.declared.asked.Asked.TheVariants.{Module, Atoms, Script, Generate, Summary, Nothing}
+use Rattle.ad_command.specs.Command.{Command, IsCommand, IsNoCommand, a_document, nothing, of_module, of_atoms, of_script, of_generate, of_summary, reads}
 use Rattle.ad_command.specs.Words.{module_kind, workers_in}
 
 -- the words are those of a module of this kind
@@ -17,6 +17,12 @@ pub record IsSomeDocument (words : List (List ℕ)) : Type 0 where
   pub command : Command
   pub commanded : IsCommand words command
   pub document : reads command ≡ a_document
+
+-- the words are those of a command that reads nothing: of a generated ontology, or of its summary
+pub record IsSomeGenerated (words : List (List ℕ)) : Type 0 where
+  pub command : Command
+  pub commanded : IsCommand words command
+  pub generated : reads command ≡ nothing
 
 -- the words are those of a session
 pub record IsSomeScript (words : List (List ℕ)) : Type 0 where
@@ -36,6 +42,8 @@ abbrev pub AsksFor : List (List ℕ) → Asked → Type 0
 AsksFor words (Module kind) = (module_kind words ≡ Some kind) × IsModule words kind
 AsksFor words (Atoms kind workers) = IsWithWorkers (of_atoms kind) words workers
 AsksFor words (Script workers) = IsWithWorkers of_script words workers
+AsksFor words (Generate size) = IsCommand words (of_generate size)
+AsksFor words (Summary size workers) = IsWithWorkers (of_summary size) words workers
 AsksFor words Nothing = IsNoCommand words
 
 -- words ask for one thing only

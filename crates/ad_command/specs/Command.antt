@@ -19,6 +19,10 @@ pub data Command : Type 0 where
   of_atoms : (kind : Kind) (workers : Option ℕ) → Command
   -- the session whose requests are on the source, over a machine of one session, with this many workers, or one
   of_script : (workers : Option ℕ) → Command
+  -- the generated document of this size
+  of_generate : (size : ℕ) → Command
+  -- the summary of the generated ontology of this size, found by this many workers, or one
+  of_summary : (size : ℕ) (workers : Option ℕ) → Command
 
 -- what a command reads from the source
 pub data Input : Type 0 where
@@ -26,11 +30,15 @@ pub data Input : Type 0 where
   a_document : Input
   -- the requests of a session
   a_session : Input
+  -- nothing: it writes of an ontology that it makes
+  nothing : Input
 
 abbrev pub reads : Command → Input
 reads (of_module kind seed) = a_document
 reads (of_atoms kind workers) = a_document
 reads (of_script workers) = a_session
+reads (of_generate size) = nothing
+reads (of_summary size workers) = nothing
 
 -- a number of workers as words; none where the command leaves it out
 abbrev pub workers_words : Option ℕ → List (List ℕ)
@@ -41,6 +49,8 @@ abbrev pub command_words : Command → List (List ℕ)
 command_words (of_module kind seed) = codes "module" ∷ kind_word kind ∷ map seed_word seed
 command_words (of_atoms kind workers) = codes "atoms" ∷ kind_word kind ∷ workers_words workers
 command_words (of_script workers) = codes "script" ∷ workers_words workers
+command_words (of_generate size) = codes "generate" ∷ decimal size ∷ []
+command_words (of_summary size workers) = codes "summary" ∷ decimal size ∷ workers_words workers
 
 -- the entities that a command may name: those whose IRI has only characters that may stand between < and >
 abbrev pub IsSeedEntity : Entity → Type 0
@@ -51,11 +61,17 @@ abbrev pub AreWorkers : Option ℕ → Type 0
 AreWorkers None = Unit {0}
 AreWorkers (Some workers) = (1 ≤ workers) × (workers ≤ 16)
 
--- the commands that are offered so far: modules and atoms of the three kinds, and sessions
+-- a generated ontology has a size of at most this
+abbrev pub most_size : ℕ
+most_size = 10000
+
+-- the commands that are offered: modules and atoms of the three kinds, sessions, and generated ontologies
 abbrev pub IsOffered : Command → Type 0
 IsOffered (of_module kind seed) = AllByRecursion IsSeedEntity seed
 IsOffered (of_atoms kind workers) = AreWorkers workers
 IsOffered (of_script workers) = AreWorkers workers
+IsOffered (of_generate size) = size ≤ most_size
+IsOffered (of_summary size workers) = (size ≤ most_size) × AreWorkers workers
 
 -- the words are those of this command
 pub record IsCommand (words : List (List ℕ)) (command : Command) : Type 0 where

@@ -1,8 +1,9 @@
-ghost use Rattle.std.specs.Prelude.{◌≡◌, ◌∷◌, codes};
+ghost use Rattle.std.specs.Prelude.{◌≡◌, ◌∷◌, [], codes};
 ghost use Rattle.ad_command.specs.Asks.{AsksFor};
 ghost use Rattle.ad_command.specs.Words.{kind_in, seeded_kind};
 
 use crate::seed::name_entities;
+use crate::size::size_of;
 use crate::workers::workers_of;
 use ad_base::{Kind, Word};
 
@@ -15,6 +16,10 @@ pub enum Asked {
     Atoms(Kind, u32),
     /// A session, with so many workers.
     Script(u32),
+    /// The generated document of this size.
+    Generate(u32),
+    /// The summary of the generated ontology of this size, found by so many workers.
+    Summary(u32, u32),
     /// Nothing: they are the words of no command.
     Nothing,
 }
@@ -37,6 +42,8 @@ fn read_behind(first: &str, rest: &[Word]) -> Asked
         "module" => read_module(rest),
         "atoms" => read_atoms(rest),
         "script" => read_script(rest),
+        "generate" => read_generate(rest),
+        "summary" => read_summary(rest),
         _ => Asked::Nothing,
     }
 }
@@ -90,6 +97,49 @@ fn read_script(workers: &[Word]) -> Asked
 {
     match workers_of(workers) {
         Some(workers) => Asked::Script(workers),
+        None => Asked::Nothing,
+    }
+}
+
+// What `generate` and the words behind it ask for.
+fn read_generate(rest: &[Word]) -> Asked
+    ensures { AsksFor (codes "generate" ∷ rest.now) result }
+{
+    match rest {
+        [size] => read_generate_of(size.as_str()),
+        _ => Asked::Nothing,
+    }
+}
+
+// What `generate` and the word of a size ask for.
+fn read_generate_of(size: &str) -> Asked
+    ensures { AsksFor (codes "generate" ∷ size.now ∷ []) result }
+{
+    match size_of(size) {
+        Some(size) => Asked::Generate(size),
+        None => Asked::Nothing,
+    }
+}
+
+// What `summary` and the words behind it ask for.
+fn read_summary(rest: &[Word]) -> Asked
+    ensures { AsksFor (codes "summary" ∷ rest.now) result }
+{
+    match rest {
+        [] => Asked::Nothing,
+        [size, workers @ ..] => read_summary_of(size.as_str(), workers),
+    }
+}
+
+// What `summary`, the word of a size and the words of workers ask for.
+fn read_summary_of(size: &str, workers: &[Word]) -> Asked
+    ensures { AsksFor (codes "summary" ∷ size.now ∷ workers.now) result }
+{
+    match size_of(size) {
+        Some(size) => match workers_of(workers) {
+            Some(workers) => Asked::Summary(size, workers),
+            None => Asked::Nothing,
+        },
         None => Asked::Nothing,
     }
 }

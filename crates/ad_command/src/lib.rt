@@ -8,4 +8,5 @@ pub use seed::named_seed;
 mod asked;
 mod laws;
 mod seed;
+mod size;
 mod workers;

@@ -12,10 +12,11 @@ use Rattle.ad_session.specs.declared.ends.End.TheVariants as ends
 use Rattle.ad_run.specs.declared.status.Status.{Status}
 use Rattle.ad_run.specs.declared.status.Status.TheVariants.{Done, Usage, Refused, Cut, TooLong, Spent, ReadFault, WriteFault, Memory}
 use Rattle.ad_run.specs.Statuses.{code_of}
-use Rattle.ad_command.specs.Command.{Command, IsCommand, IsNoCommand, Input, reads, a_document, a_session}
+use Rattle.ad_command.specs.Command.{Command, IsCommand, IsNoCommand, Input, reads, a_document, a_session, nothing}
 use Rattle.ad_run.specs.Causes.{IsUnfit}
 use Rattle.ad_run.specs.Inputs.{IsRead}
 use Rattle.ad_documents.specs.Output.{IsOutput}
+use Rattle.ad_generated.specs.Output.{IsGenerated}
 
 -- the source was read to its end, and this is the command's output on its text
 pub record Finds (command : Command) (a b : Flow) (output : List ℕ) : Type 0 where
@@ -68,10 +69,29 @@ ScriptEnds a b ReadFault = RunsSession (λ end. end ≡ ends.ReadFault) a b
 ScriptEnds a b WriteFault = RunsSession (λ end. end ≡ ends.WriteFault) a b
 ScriptEnds a b Memory = Gains a.written b.written []
 
+-- nothing of the source was read
+pub record IsUntouched (a b : Flow) : Type 0 where
+  pub left : b.left ≡ a.left
+  pub faults : b.read_faults ≡ a.read_faults
+
+-- What a command that reads nothing did, by the status. The sink has exactly its output, or a front of it where it
+-- failed; or memory was wanting, and nothing was written.
+abbrev pub GeneratedEnds : Command → Flow → Flow → Status → Type 0
+GeneratedEnds command a b Done = IsUntouched a b × (output : List ℕ) × IsGenerated command output × Gains a.written b.written output
+GeneratedEnds command a b Usage = ⊥
+GeneratedEnds command a b (Refused refusal) = ⊥
+GeneratedEnds command a b Cut = ⊥
+GeneratedEnds command a b TooLong = ⊥
+GeneratedEnds command a b Spent = ⊥
+GeneratedEnds command a b ReadFault = ⊥
+GeneratedEnds command a b WriteFault = IsUntouched a b × (output : List ℕ) × IsGenerated command output × GainsFront a.written b.written output
+GeneratedEnds command a b Memory = IsUntouched a b × Gains a.written b.written []
+
 -- what a command did, by what it reads
 abbrev pub EndsOn : Input → Command → Flow → Flow → Status → Type 0
 EndsOn a_document command a b status = DocumentEnds command a b status
 EndsOn a_session command a b status = ScriptEnds a b status
+EndsOn nothing command a b status = GeneratedEnds command a b status
 
 -- the words are a command, and it did this
 pub record Ran (words : List (List ℕ)) (a b : Flow) (status : Status) : Type 0 where

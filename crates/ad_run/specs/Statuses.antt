@@ -1,5 +1,8 @@
 -- The exit statuses.
-use Rattle.std.specs.Prelude.{◌≡◌, ℕ}
+use Rattle.std.specs.Prelude.{◌≡◌, ℕ, Result, Ok, Err}
+use Rattle.ad_base.specs.declared.memory.Memory.{Memory as NoMemory}
+use Rattle.ad_io.specs.declared.writes.Wrote.{Wrote}
+use Rattle.ad_io.specs.declared.writes.Wrote.TheVariants as wrote
 use Rattle.ad_documents.specs.declared.answer.Answer.{Answer}
 use Rattle.ad_documents.specs.declared.answer.Answer.TheVariants as answers
 use Rattle.ad_session.specs.declared.ends.End.{End}
@@ -24,6 +27,12 @@ answer_status answers.Written = Done
 answer_status (answers.Refused refusal) = Refused refusal
 answer_status answers.WriteFault = WriteFault
 answer_status answers.Memory = Memory
+
+-- the status of a command that generates an ontology and whose output was written so, or for which memory was wanting
+abbrev pub output_status : Result Wrote NoMemory → Status
+output_status (Ok wrote.All) = Done
+output_status (Ok wrote.Failed) = WriteFault
+output_status (Err memory) = Memory
 
 -- a status that the program ends with
 abbrev pub IsStatus : ℕ → Type 0

@@ -7,6 +7,7 @@ pub use ad_sweep::sweep;
 pub use run::run_once;
 pub use status::{memory, usage};
 
+mod generated;
 mod run;
 mod script;
 mod status;

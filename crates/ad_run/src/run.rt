@@ -4,7 +4,7 @@ ghost use Rattle.ad_io.specs.Flow.{Rose, NotRisen};
 ghost use Rattle.ad_items.specs.Items.{Items, Split, bounds_of};
 ghost use Rattle.ad_session.specs.Flows.{flow};
 ghost use Rattle.ad_tree.specs.declared.axioms.Noted.{Noted};
-ghost use Rattle.ad_command.specs.Asks.{IsModule, IsSomeDocument, IsSomeScript, IsWithWorkers};
+ghost use Rattle.ad_command.specs.Asks.{IsModule, IsSomeDocument, IsSomeGenerated, IsSomeScript, IsWithWorkers};
 ghost use Rattle.ad_command.specs.Command.{IsNoCommand, of_atoms};
 ghost use Rattle.ad_command.specs.Words.{module_kind};
 ghost use Rattle.ad_run.specs.Causes.{too_long};
@@ -15,6 +15,7 @@ ghost use Rattle.ad_documents.specs.Output.{IsOntology, IsNoOntology};
 ghost use Rattle.ad_run.specs.Runs.{RunCause, code_at};
 ghost use Rattle.ad_run.specs.Statuses.{IsStatus};
 
+use crate::generated::{run_generate, run_summary};
 use crate::script::run_script;
 use crate::status::Status;
 use ad_base::{Kind, Limits, Which, Word};
@@ -26,7 +27,7 @@ use std::alloc::Global;
 use std::hash::RandomState;
 use std::thread::Threads;
 
-/// Does what the words ask for: reads a document, or the requests of a session, from the source, writes to the sink,
+/// Does what the words ask for: reads a document, the requests of a session, or nothing, from the source, writes to the sink,
 /// and tells a status other than 0 on the notes in a line. It always returns, with the exit status. Names are hashed with
 /// these keys, and threads share the work; what is written depends on neither.
 pub fn run_once<S: Source, K: Sink, N: Sink>(
@@ -40,8 +41,9 @@ pub fn run_once<S: Source, K: Sink, N: Sink>(
 ) -> u8
     ensures known { IsStatus result }
 
-    // 0: the words are a command. For a module or atoms the source was read to its end, and the sink has exactly the
-    // command's output; a session was closed by its input, and the sink has exactly its replies.
+    // 0: the words are a command. For a module or atoms the source was read to its end, and the sink has exactly
+    // the command's output; a session was closed by its input, and the sink has exactly its replies; of a generated
+    // ontology nothing was read, and the sink has exactly the output.
     ensures done { result ≡ 0 → IsDone words.now (flow (S.left source.old) (S.faults source.old) (K.written sink.old) (K.faults sink.old)) (flow (S.left source.new) (S.faults source.new) (K.written sink.new) (K.faults sink.new)) }
 
     // 2: exactly where the words are no command; nothing is read or written.
@@ -65,10 +67,15 @@ pub fn run_once<S: Source, K: Sink, N: Sink>(
     // 6: memory is wanting; nothing was written.
     ensures memory { result ≡ 6 → IsWanting words.now (flow (S.left source.old) (S.faults source.old) (K.written sink.old) (K.faults sink.old)) (flow (S.left source.new) (S.faults source.new) (K.written sink.new) (K.faults sink.new)) }
 
-    // Where the source tells its text, the words are those of a module or of atoms and no count rises, a text of an
+    // Where the source tells its text, the words are those of a module or atoms and no count rises, a text of an
     // ontology within the limits is answered, and any other text is refused, unless memory is wanting.
     ensures complete { (text : List ℕ) (ontology : List Noted) → IsSomeDocument words.now → S.left source.old ≡ Some text → IsSome (S.left source.new) → length text ≤ payload_limit → IsOntology text ontology → NotRisen (S.faults source.old) (S.faults source.new) → NotRisen (K.faults sink.old) (K.faults sink.new) → (result ≡ 0) ⊎ (result ≡ 6) }
     ensures refuses { (text : List ℕ) → IsSomeDocument words.now → S.left source.old ≡ Some text → IsSome (S.left source.new) → IsNoOntology text ⊎ (payload_limit < length text) → NotRisen (S.faults source.old) (S.faults source.new) → NotRisen (K.faults sink.old) (K.faults sink.new) → (result ≡ 3) ⊎ (result ≡ 6) }
+
+    // A command on a generated ontology reads nothing, and where the sink doesn't fail all is written, unless memory is
+    // wanting.
+    ensures reads_nothing { IsSomeGenerated words.now → (S.left source.new ≡ S.left source.old) × (S.faults source.new ≡ S.faults source.old) }
+    ensures generates { IsSomeGenerated words.now → NotRisen (K.faults sink.old) (K.faults sink.new) → (result ≡ 0) ⊎ (result ≡ 6) }
 
     // The notes get exactly the line of the status, or a front of it where they fail; and nothing at 0. For a refused
     // document the line names the cause that it has, and for a session how its input broke off.
@@ -100,6 +107,8 @@ fn run<S: Source, K: Sink>(
             run_atoms(rt, alloc, keys, kind, workers, words, source, sink)
         },
         Asked::Script(workers) => run_script(rt, alloc, keys, workers, source, sink),
+        Asked::Generate(size) => run_generate(alloc, size, words, sink),
+        Asked::Summary(size, workers) => run_summary(rt, alloc, keys, size, workers, words, sink),
         Asked::Nothing => Status::Usage,
     }
 }

@@ -2,8 +2,9 @@ ghost use Rattle.std.specs.Prelude.{◌≡◌, ◌∷◌, [], codes};
 ghost use Rattle.ad_io.specs.Sink.{Puts, PutCause};
 ghost use Rattle.ad_reply.specs.Replies.{cause_words, refused};
 ghost use Rattle.ad_run.specs.Notes.{note, note_of, IsNoted};
-ghost use Rattle.ad_run.specs.Statuses.{answer_status, code_of};
+ghost use Rattle.ad_run.specs.Statuses.{answer_status, code_of, output_status};
 
+use ad_base::Memory;
 use ad_documents::Answer;
 use ad_io::{Sink, Wrote, put_all};
 use ad_reply::{Refusal, explain};
@@ -41,6 +42,17 @@ impl Status {
             Answer::Refused(refusal) => Status::Refused(refusal),
             Answer::WriteFault => Status::WriteFault,
             Answer::Memory => Status::Memory,
+        }
+    }
+
+    // The status of a command that generates an ontology and whose output was written so, or for which memory was wanting.
+    pub(crate) fn of_output(output: Result<Wrote, Memory>) -> Status
+        ensures { result ≡ output_status output }
+    {
+        match output {
+            Ok(Wrote::All) => Status::Done,
+            Ok(Wrote::Failed) => Status::WriteFault,
+            Err(Memory) => Status::Memory,
         }
     }
 

@@ -1,0 +1,7 @@
+mod NameLemmas
+mod CountLemmas
+mod RankLemmas
+mod RisingLemmas
+mod AddedLemmas
+mod LineLemmas
+mod FitLemmas
