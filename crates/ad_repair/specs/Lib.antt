@@ -1,0 +1,4 @@
+pub mod Changes
+pub mod Touches
+pub mod Marks
+pub mod Plans
