@@ -1,6 +1,6 @@
 #!/usr/bin/env bash
 # Drives the program that rt ci built with the client in clients/python, through every request and every refusal that can be
-# reached. client.py has the checks.
+# reached. client.py and split.py have the checks; the second runs those of both.
 #
 #   checks/client.sh [WORD]    with a word, only the checks whose name has it
 #
@@ -15,4 +15,4 @@ if [ ! -x "$program" ]; then
   echo "client: $program isn't there: the gate (.ci/run) or ./owlad builds it"
   exit 1
 fi
-exec python3 -B "$here/client.py" "$program" "$@"
+exec python3 -B "$here/split.py" "$program" "$@"

@@ -20,13 +20,21 @@ As a command it loads a file and asks one request of it:
     owlad_client.py [--program PATH] stat FILE
     owlad_client.py [--program PATH] export FILE
 
+or writes the parts of an ontology into a folder, a file each, with a page that shows them (made by owlad_page.py beside):
+
+    owlad_client.py [--program PATH] split [--force] [FILE] KIND DIR
+
 The status is 0; or 1 with a line on standard error, where owlad refuses or its replies break off; or 2 for words of no form.
 """
 
 import argparse
+import os
 import re
 import subprocess
 import sys
+import tempfile
+import threading
+import unicodedata
 from typing import NamedTuple, Tuple
 
 KINDS = ("bottom", "top", "star")
@@ -96,6 +104,13 @@ class Stat(NamedTuple):
     bottom: int
     top: int
     star: int
+
+
+class Part(NamedTuple):
+    """A part of an ontology: how many logical axioms it has, and its document."""
+
+    axioms: int
+    text: str
 
 
 class ProtocolError(Exception):
@@ -279,6 +294,9 @@ EDITED = "added N already N removed N absent N\n"
 
 STAT = "axioms N carried N entities N bytes N\ntautologies N\natoms bottom N top N star N\n"
 
+# How the axioms begin that aren't logical.
+CARRIED = ("Declaration(", "AnnotationAssertion(", "SubAnnotationPropertyOf(", "AnnotationPropertyDomain(", "AnnotationPropertyRange(")
+
 
 def close(stream):
     try:
@@ -297,9 +315,13 @@ class Client:
     @classmethod
     def start(cls, program, workers=1):
         """Returns a client of a process of its own, that this program runs as `script`."""
-        words = [program, "script", "--workers", str(workers)]
-        process = subprocess.Popen(words, stdin=subprocess.PIPE, stdout=subprocess.PIPE, stderr=subprocess.PIPE)
-        return cls(process.stdout, process.stdin, process)
+        return cls.run([program, "script", "--workers", str(workers)], subprocess.PIPE)
+
+    @classmethod
+    def run(cls, words, source):
+        """Returns a client of a process of these words, whose input is `source`: a file, or a pipe that the client writes."""
+        process = subprocess.Popen(words, stdin=source, stdout=subprocess.PIPE, stderr=subprocess.PIPE)
+        return cls(process.stdout, process.stdin or source, process)
 
     def __enter__(self):
         return self
@@ -464,6 +486,256 @@ class Client:
         self.status = self.process.wait()
 
 
+# Parts
+
+
+def split(program, kind, document):
+    """Returns the parts of the ontology of a document, a text or its bytes: a list of `Part`, in the order of their atoms.
+
+    A refused document is `Refused`, as by LOAD. `parts_of` hands on each part alone, where all of them take too much memory.
+    """
+    return list(parts_of(program, kind, document))
+
+
+def parts_of(program, kind, document, told=lambda number, count: None):
+    """Runs the program as `split`, and yields each part as soon as it is read. `told` is called with how many parts are read
+    and how many there are."""
+    words, payload = [program, "split", kind_word(kind)], as_bytes(document)
+    if len(payload) > MOST_BYTES:
+        raise ValueError(f"a document of {len(payload)} bytes would be refused")
+    with tempfile.TemporaryFile() as given:
+        given.write(payload)
+        given.seek(0)
+        run = Client.run(words, given)
+        try:
+            yield from read_parts(run, told)
+        except Broken as why:
+            raise refusal(run) or why
+        finally:
+            run.close()
+
+
+def read_parts(run, told):
+    """Yields the parts that a run writes, to its end."""
+    count = read_numbers(run, "parts N")[0]
+    for number in range(count):
+        told(number, count)
+        yield read_part(run, number)
+    told(count, count)
+    if run.source.read(1):
+        raise ProtocolError("bytes behind the last part")
+    run.close()
+    if run.status not in (0, None):
+        raise run.broken("the parts are no answer")
+
+
+def read_part(run, number):
+    axioms, size = read_numbers(run, f"part {number} axioms N bytes N")
+    try:
+        text = run.read_bytes(size).decode("utf-8")
+    except UnicodeDecodeError as why:
+        raise ProtocolError(f"part {number} is no text") from why
+    found = axioms_of(text)
+    if found is None or axioms == 0 or sum(not axiom.startswith(CARRIED) for axiom in found) != axioms:
+        raise ProtocolError(f"part {number} is no document of {axioms} axioms: {text[:80]!r}")
+    return Part(axioms, text)
+
+
+def read_numbers(run, pattern):
+    """Returns the numbers of the next line, which is of this form."""
+    line = run.read_line()
+    found = numbers(pattern, line)
+    if found is None:
+        raise ProtocolError(f"no line {pattern!r}: {line[:80]!r}")
+    return found
+
+
+def refusal(run):
+    """Returns the refusal that the status and the note of a run that ended tell, None if they tell none."""
+    if run.status == 6:
+        return Refused.of(f"NO {Refused.MEMORY}")
+    begin = "owlad: refused "
+    return Refused.of("NO " + run.note[len(begin) :]) if run.status == 3 and run.note.startswith(begin) else None
+
+
+# Names of parts
+
+# An IRI, a literal, a parenthesis, or what else stands in canonical text.
+TOKEN = re.compile(r'<[^>]*>|"[^"\\]*(?:\\.[^"\\]*)*"|[()]|[^\s()<>"]+', re.S)
+
+# The forms of which every operand is a class, of which the first is one, and of which the one behind a property is one. (The
+# number of a cardinality isn't counted, nor are annotations.)
+ALL_CLASSES = {
+    "SubClassOf", "EquivalentClasses", "DisjointClasses", "DisjointUnion", "ObjectIntersectionOf", "ObjectUnionOf", "ObjectComplementOf",
+}  # fmt: skip
+
+FIRST_CLASS = {"Class", "ClassAssertion", "HasKey"}
+
+SECOND_CLASS = {
+    "ObjectSomeValuesFrom", "ObjectAllValuesFrom", "ObjectMinCardinality", "ObjectMaxCardinality", "ObjectExactCardinality",
+    "ObjectPropertyDomain", "ObjectPropertyRange", "DataPropertyDomain",
+}  # fmt: skip
+
+BUILT_IN = {"http://www.w3.org/2002/07/owl#Thing", "http://www.w3.org/2002/07/owl#Nothing"}
+
+# What the files of no system may be called, whatever stands behind a dot.
+DEVICES = {"con", "prn", "aux", "nul", *(f"{name}{digit}" for name in ("com", "lpt") for digit in range(10))}
+
+# How long a name may be, without its ending: most systems take 255 bytes.
+NAME_LENGTH, NAME_BYTES = 80, 240
+
+
+def is_class_at(head, place):
+    return head in ALL_CLASSES or place == 0 and head in FIRST_CLASS or place == 1 and head in SECOND_CLASS
+
+
+def first_class(text):
+    """Returns the IRI of the first class in a text of owlad, but for those that are built in, and None if there is none."""
+    frames, word = [["", 0]], ""
+    for token in (found[0] for found in TOKEN.finditer(text)):
+        if token == "(":
+            frames.append([word, 0])
+        elif token == ")":
+            head, _ = frames.pop()
+            frames[-1][1] += head != "Annotation"
+        elif token[0] == "<":
+            if is_class_at(*frames[-1]) and token[1:-1] not in BUILT_IN:
+                return token[1:-1]
+            frames[-1][1] += 1
+        word = token if token[0] not in '()<"' else ""
+    return None
+
+
+def local_name(iri):
+    """Returns what stands behind the last # or / of an IRI."""
+    return re.split("[#/]", iri)[-1]
+
+
+def safe_name(text):
+    """Returns a name for a file that all systems take, made of a text; it is empty if nothing of the text is left."""
+    kept = "".join(it if unicodedata.category(it)[0] in "LMN" or it in "-._" else "_" for it in unicodedata.normalize("NFC", text))
+    name = shortened(kept.strip("_").lstrip("-."), "")
+    return "_" + name[: NAME_LENGTH - 1] if folded(name).split(".")[0] in DEVICES else name
+
+
+def shortened(name, ending):
+    """Returns the longest front of a name that may stand before this ending, with the ending."""
+    name = name[: NAME_LENGTH - len(ending)]
+    while len((name + ending).encode("utf-8")) > NAME_BYTES:
+        name = name[:-1]
+    return name.rstrip(".") + ending
+
+
+def folded(name):
+    """Returns what two names have in common that some system takes for the same."""
+    return unicodedata.normalize("NFKC", unicodedata.normalize("NFKC", name).casefold())
+
+
+class Names:
+    """Names for files, each given once: `-2`, `-3` and so on stand behind those that were there before."""
+
+    def __init__(self):
+        self.given, self.last = set(), {}
+
+    def unique(self, name):
+        number, found = self.last.get(folded(name), 0), name
+        while number == 0 or folded(found) in self.given:
+            number += 1
+            found = name if number == 1 else shortened(name, f"-{number}")
+        self.last[folded(name)] = number
+        self.given.add(folded(found))
+        return found
+
+    def of_part(self, number, text):
+        """Returns the name for the part of this number and text."""
+        return self.unique(safe_name(local_name(first_class(text) or "")) or f"part-{number}")
+
+
+# The folder of parts
+
+
+class Progress:
+    """A line on standard error, where that is a terminal, that tells how far long work is. It comes after a second, is written
+    anew each second, and goes at the end."""
+
+    def __init__(self, stream=None, seconds=1):
+        self.stream, self.seconds = sys.stderr if stream is None else stream, seconds
+        self.line, self.width, self.over = "", 0, threading.Event()
+        self.thread = threading.Thread(target=self.run, daemon=True) if self.stream.isatty() else None
+
+    def __enter__(self):
+        if self.thread:
+            self.thread.start()
+        return self
+
+    def __exit__(self, *_):
+        if self.thread:
+            self.over.set()
+            self.thread.join()
+
+    def at(self, what, done, count):
+        self.line = f"owlad_client: {what}, {done} of {count} done"
+
+    def run(self):
+        while not self.over.wait(self.seconds):
+            self.show(self.line)
+        if self.width:
+            self.show("")
+            self.stream.write("\r")
+            self.stream.flush()
+
+    def show(self, line):
+        self.stream.write("\r" + line.ljust(self.width))
+        self.stream.flush()
+        self.width = len(line)
+
+
+def usable(folder, force):
+    """Makes a folder if it isn't there. One that has files already is refused, unless by force."""
+    os.makedirs(folder, exist_ok=True)
+    if not force and os.listdir(folder):
+        raise FileExistsError(f"{folder} has files already: name another folder, or write over them with --force")
+
+
+def write_parts(words, document, progress):
+    """Writes a file for each part, and returns of each its file's name, how many axioms it has, and its bytes."""
+    rows, names = [], Names()
+    for part in parts_of(words.program, words.kind, document, lambda *counts: progress.at("parts", *counts)):
+        body, name = part.text.encode("utf-8"), names.of_part(len(rows), part.text) + ".ofn"
+        with open(os.path.join(words.folder, name), "wb") as file:
+            file.write(body)
+        rows.append((name, part.axioms, len(body)))
+    return rows
+
+
+def all_atoms(words, document, progress):
+    """Returns the atoms of a kind, and the axioms of each."""
+    with Client.start(words.program) as client:
+        client.load(document)
+        atoms, axioms = client.atoms(words.kind).atoms, []
+        for atom in atoms:
+            progress.at("atoms", atom.number, len(atoms))
+            axioms.append(client.atom(words.kind, atom.number).axioms)
+    if [atom.axioms for atom in atoms] != [len(it) for it in axioms]:
+        raise ProtocolError("the atoms aren't of the sizes that are told")
+    return atoms, axioms
+
+
+def split_into(words, document):
+    """Writes the parts of a document into the folder of the words, and behind them the page that shows them."""
+    import owlad_page
+
+    usable(words.folder, words.force)
+    with Progress() as progress:
+        progress.line = "owlad_client: waiting for the parts"
+        rows = write_parts(words, document, progress)
+        atoms, axioms = all_atoms(words, document, progress)
+        names = [local_name(first_class(it[0]) or "") for it in axioms]
+        page = owlad_page.page(words.kind, rows, [owlad_page.Drawn(*it) for it in zip(names, (it.needs for it in atoms), axioms)])
+        with open(os.path.join(words.folder, "index.html"), "w", encoding="utf-8", newline="\n") as file:
+            file.write(page)
+
+
 # The command
 
 
@@ -481,6 +753,12 @@ def words_of(arguments):
             ask.add_argument("kind", choices=KINDS)
         if name == "module":
             ask.add_argument("seed", nargs="*", help="an entity, as Class=IRI")
+    ask = asks.add_parser("split", help="the parts of a kind, and a page that shows them, into a folder")
+    ask.add_argument("--program", default=argparse.SUPPRESS, help=argparse.SUPPRESS)
+    ask.add_argument("--force", action="store_true", help="write into a folder that has files already")
+    ask.add_argument("file", nargs="?", help="a document in functional-style syntax, by default standard input")
+    ask.add_argument("kind", choices=KINDS)
+    ask.add_argument("folder", metavar="DIR", help="the folder, made if it isn't there")
     return parser.parse_args(arguments)
 
 
@@ -491,11 +769,21 @@ def asked(client, words):
     return client.ask("ATOMS " + words.kind if words.request == "atoms" else words.request.upper())[1]
 
 
+def read_document(path):
+    """Returns the bytes of a file, or of standard input where there is no path."""
+    if path is None:
+        return sys.stdin.buffer.read()
+    with open(path, "rb") as file:
+        return file.read()
+
+
 def main(arguments):
     words = words_of(arguments)
     try:
-        with open(words.file, "rb") as file:
-            text = file.read()
+        text = read_document(words.file)
+        if words.request == "split":
+            split_into(words, text)
+            return 0
         with Client.start(words.program) as client:
             client.load(text)
             body = asked(client, words)

@@ -1,9 +1,9 @@
 -- Words ask for one thing only.
 use Rattle.std.proofs.Common.{◌≡◌, ◌⊎◌, inl, inr, ℕ, List, refl, sym, ◌∙◌, ap}
 use Rattle.ad_command.specs.declared.asked.Asked.{Asked}
-use Rattle.ad_command.specs.declared.asked.Asked.TheVariants.{Module, Atoms, Script, Generate, Summary, Nothing}
+use Rattle.ad_command.specs.declared.asked.Asked.TheVariants.{Module, Atoms, Script, Split, Generate, Summary, Nothing}
 use Rattle.ad_base.specs.declared.limits.Kind.{Kind}
-use Rattle.ad_command.specs.Command.{Command, IsCommand, IsNoCommand, of_module, of_atoms, of_script, of_generate, of_summary}
+use Rattle.ad_command.specs.Command.{Command, IsCommand, IsNoCommand, of_module, of_atoms, of_script, of_split, of_generate, of_summary}
 use Rattle.ad_command.specs.Words.{workers_in}
 use Rattle.ad_command.specs.Asks.{AsksFor, AsksForOneThing, IsModule, IsWithWorkers}
 use Rattle.ad_command.proofs.CommandLemmas.{one_command}
@@ -13,6 +13,7 @@ abbrev asking : Command → Asked
 asking (of_module kind seed) = Module kind
 asking (of_atoms kind workers) = Atoms kind (workers_in workers)
 asking (of_script workers) = Script (workers_in workers)
+asking (of_split kind) = Split kind
 asking (of_generate size) = Generate size
 asking (of_summary size workers) = Summary size (workers_in workers)
 
@@ -37,6 +38,7 @@ asked_by : (words : List (List ℕ)) (asked : Asked) → AsksFor words asked →
 asked_by words (Module kind) is = inl (of_its_module words kind is.1)
 asked_by words (Atoms kind workers) is = inl (of_its_atoms words kind workers is)
 asked_by words (Script workers) is = inl (of_its_script words workers is)
+asked_by words (Split kind) is = inl (of_split kind, is, refl)
 asked_by words (Generate size) is = inl (of_generate size, is, refl)
 asked_by words (Summary size workers) is = inl (of_summary size is.number, is.commanded, ap (Summary size) is.count)
 asked_by words Nothing is = inr (is, refl)

@@ -11,7 +11,7 @@ use Rattle.ad_entity.specs.Entities.{entity}
 use Rattle.ad_entity.specs.declared.entities.EntityKind.{EntityKind}
 use Rattle.ad_entity.specs.declared.entities.EntityKind.TheVariants as kinds
 use Rattle.ad_entity.specs.declared.entities.Entity.{Entity}
-use Rattle.ad_command.specs.Command.{Command, IsCommand, IsSeedEntity, AreWorkers, reads, of_module, of_atoms, of_script, of_generate, of_summary, most_size, seed_word, workers_words, SpellsOneCommand}
+use Rattle.ad_command.specs.Command.{Command, IsCommand, IsSeedEntity, AreWorkers, reads, of_module, of_atoms, of_script, of_split, of_generate, of_summary, most_size, seed_word, workers_words, SpellsOneCommand}
 use Rattle.ad_command.specs.Words.{front_of, entity_kind_in, kind_in}
 use Rattle.ad_command.proofs.WordLemmas.{kind_of_word, letters}
 
@@ -62,6 +62,9 @@ one_atoms words j k v w a b =
     let number = one_number v w a.offered b.offered (ap (drop 2) same) in
     λ i. of_atoms (kind i) (number i)
 
+one_split : (words : List (List ℕ)) (j k : Kind) → IsCommand words (of_split j) → IsCommand words (of_split k) → of_split j ≡ of_split k
+one_split words j k a b = ap of_split (one_kind j k (ap (λ ws. get_or ws 1 []) (sym a.spelled ∙ b.spelled)))
+
 one_size : (m n : ℕ) → m ≤ most_size → n ≤ most_size → decimal m ≡ decimal n → m ≡ n
 one_size m n p q same = decimal_injective m n (omega (arith, p)) (omega (arith, q)) same
 
@@ -79,26 +82,37 @@ pub one_command : SpellsOneCommand
 one_command words (of_module j s) (of_module k t) a b = one_module words j k s t a b
 one_command words (of_module j s) (of_atoms k w) a b = absurd (let first : 28015 ≡ 24948 = ap letters (sym a.spelled ∙ b.spelled) in omega (arith, first))
 one_command words (of_module j s) (of_script w) a b = absurd (let first : 28015 ≡ 29539 = ap letters (sym a.spelled ∙ b.spelled) in omega (arith, first))
+one_command words (of_module j s) (of_split k) a b = absurd (let first : 28015 ≡ 29552 = ap letters (sym a.spelled ∙ b.spelled) in omega (arith, first))
 one_command words (of_module j s) (of_generate n) a b = absurd (let first : 28015 ≡ 26469 = ap letters (sym a.spelled ∙ b.spelled) in omega (arith, first))
 one_command words (of_module j s) (of_summary n w) a b = absurd (let first : 28015 ≡ 29557 = ap letters (sym a.spelled ∙ b.spelled) in omega (arith, first))
 one_command words (of_atoms j v) (of_module k t) a b = absurd (let first : 24948 ≡ 28015 = ap letters (sym a.spelled ∙ b.spelled) in omega (arith, first))
 one_command words (of_atoms j v) (of_atoms k w) a b = one_atoms words j k v w a b
 one_command words (of_atoms j v) (of_script w) a b = absurd (let first : 24948 ≡ 29539 = ap letters (sym a.spelled ∙ b.spelled) in omega (arith, first))
+one_command words (of_atoms j v) (of_split k) a b = absurd (let first : 24948 ≡ 29552 = ap letters (sym a.spelled ∙ b.spelled) in omega (arith, first))
 one_command words (of_atoms j v) (of_generate n) a b = absurd (let first : 24948 ≡ 26469 = ap letters (sym a.spelled ∙ b.spelled) in omega (arith, first))
 one_command words (of_atoms j v) (of_summary n w) a b = absurd (let first : 24948 ≡ 29557 = ap letters (sym a.spelled ∙ b.spelled) in omega (arith, first))
 one_command words (of_script v) (of_module k t) a b = absurd (let first : 29539 ≡ 28015 = ap letters (sym a.spelled ∙ b.spelled) in omega (arith, first))
 one_command words (of_script v) (of_atoms k w) a b = absurd (let first : 29539 ≡ 24948 = ap letters (sym a.spelled ∙ b.spelled) in omega (arith, first))
 one_command words (of_script v) (of_script w) a b = ap of_script (one_number v w a.offered b.offered (ap (drop 1) (sym a.spelled ∙ b.spelled)))
+one_command words (of_script v) (of_split k) a b = absurd (let first : 29539 ≡ 29552 = ap letters (sym a.spelled ∙ b.spelled) in omega (arith, first))
 one_command words (of_script v) (of_generate n) a b = absurd (let first : 29539 ≡ 26469 = ap letters (sym a.spelled ∙ b.spelled) in omega (arith, first))
 one_command words (of_script v) (of_summary n w) a b = absurd (let first : 29539 ≡ 29557 = ap letters (sym a.spelled ∙ b.spelled) in omega (arith, first))
+one_command words (of_split j) (of_module k t) a b = absurd (let first : 29552 ≡ 28015 = ap letters (sym a.spelled ∙ b.spelled) in omega (arith, first))
+one_command words (of_split j) (of_atoms k w) a b = absurd (let first : 29552 ≡ 24948 = ap letters (sym a.spelled ∙ b.spelled) in omega (arith, first))
+one_command words (of_split j) (of_script w) a b = absurd (let first : 29552 ≡ 29539 = ap letters (sym a.spelled ∙ b.spelled) in omega (arith, first))
+one_command words (of_split j) (of_split k) a b = one_split words j k a b
+one_command words (of_split j) (of_generate n) a b = absurd (let first : 29552 ≡ 26469 = ap letters (sym a.spelled ∙ b.spelled) in omega (arith, first))
+one_command words (of_split j) (of_summary n w) a b = absurd (let first : 29552 ≡ 29557 = ap letters (sym a.spelled ∙ b.spelled) in omega (arith, first))
 one_command words (of_generate m) (of_module k t) a b = absurd (let first : 26469 ≡ 28015 = ap letters (sym a.spelled ∙ b.spelled) in omega (arith, first))
 one_command words (of_generate m) (of_atoms k w) a b = absurd (let first : 26469 ≡ 24948 = ap letters (sym a.spelled ∙ b.spelled) in omega (arith, first))
 one_command words (of_generate m) (of_script w) a b = absurd (let first : 26469 ≡ 29539 = ap letters (sym a.spelled ∙ b.spelled) in omega (arith, first))
+one_command words (of_generate m) (of_split k) a b = absurd (let first : 26469 ≡ 29552 = ap letters (sym a.spelled ∙ b.spelled) in omega (arith, first))
 one_command words (of_generate m) (of_generate n) a b = one_generate words m n a b
 one_command words (of_generate m) (of_summary n w) a b = absurd (let first : 26469 ≡ 29557 = ap letters (sym a.spelled ∙ b.spelled) in omega (arith, first))
 one_command words (of_summary m v) (of_module k t) a b = absurd (let first : 29557 ≡ 28015 = ap letters (sym a.spelled ∙ b.spelled) in omega (arith, first))
 one_command words (of_summary m v) (of_atoms k w) a b = absurd (let first : 29557 ≡ 24948 = ap letters (sym a.spelled ∙ b.spelled) in omega (arith, first))
 one_command words (of_summary m v) (of_script w) a b = absurd (let first : 29557 ≡ 29539 = ap letters (sym a.spelled ∙ b.spelled) in omega (arith, first))
+one_command words (of_summary m v) (of_split k) a b = absurd (let first : 29557 ≡ 29552 = ap letters (sym a.spelled ∙ b.spelled) in omega (arith, first))
 one_command words (of_summary m v) (of_generate n) a b = absurd (let first : 29557 ≡ 26469 = ap letters (sym a.spelled ∙ b.spelled) in omega (arith, first))
 one_command words (of_summary m v) (of_summary n w) a b = one_summary words m n v w a b
 

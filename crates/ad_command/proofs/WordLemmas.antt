@@ -10,7 +10,7 @@ use Rattle.ad_base.specs.declared.limits.Kind.{Kind}
 use Rattle.ad_base.specs.declared.limits.Kind.TheVariants as modules
 use Rattle.ad_lex.proofs.Pieces.{bytes_same}
 use Rattle.ad_entity.specs.declared.entities.Entity.{Entity}
-use Rattle.ad_command.specs.Command.{IsCommand, IsNoCommand, IsSeedEntity, of_module, of_atoms, of_script, of_generate, of_summary, most_size, seed_word}
+use Rattle.ad_command.specs.Command.{IsCommand, IsNoCommand, IsSeedEntity, of_module, of_atoms, of_script, of_split, of_generate, of_summary, most_size, seed_word}
 use Rattle.ad_command.specs.Words.{are_seed_words, kind_in, seeded_kind, module_kind, NameWorkers}
 use Rattle.ad_command.specs.Asks.{IsModule}
 use Rattle.ad_command.proofs.EntityLemmas.{entities, tested}
@@ -79,6 +79,7 @@ module_or_not rest none (of_module kind seed) is =
     let found : None ≡ Some kind = sym none ∙ ap (λ ws. seeded_kind (drop 1 ws)) is.spelled ∙ test ∙ kind_of_word kind in cc
 module_or_not rest none (of_atoms kind workers) is = absurd (let first : 28015 ≡ 24948 = ap letters is.spelled in omega (arith, first))
 module_or_not rest none (of_script workers) is = absurd (let first : 28015 ≡ 29539 = ap letters is.spelled in omega (arith, first))
+module_or_not rest none (of_split kind) is = absurd (let first : 28015 ≡ 29552 = ap letters is.spelled in omega (arith, first))
 module_or_not rest none (of_generate size) is = absurd (let first : 28015 ≡ 26469 = ap letters is.spelled in omega (arith, first))
 module_or_not rest none (of_summary size workers) is = absurd (let first : 28015 ≡ 29557 = ap letters is.spelled in omega (arith, first))
 

@@ -19,6 +19,8 @@ pub data Command : Type 0 where
   of_atoms : (kind : Kind) (workers : Option ℕ) → Command
   -- the session whose requests are on the source, over a machine of one session, with this many workers, or one
   of_script : (workers : Option ℕ) → Command
+  -- the parts of this kind, of the document on the source
+  of_split : (kind : Kind) → Command
   -- the generated document of this size
   of_generate : (size : ℕ) → Command
   -- the summary of the generated ontology of this size, found by this many workers, or one
@@ -37,6 +39,7 @@ abbrev pub reads : Command → Input
 reads (of_module kind seed) = a_document
 reads (of_atoms kind workers) = a_document
 reads (of_script workers) = a_session
+reads (of_split kind) = a_document
 reads (of_generate size) = nothing
 reads (of_summary size workers) = nothing
 
@@ -49,6 +52,7 @@ abbrev pub command_words : Command → List (List ℕ)
 command_words (of_module kind seed) = codes "module" ∷ kind_word kind ∷ map seed_word seed
 command_words (of_atoms kind workers) = codes "atoms" ∷ kind_word kind ∷ workers_words workers
 command_words (of_script workers) = codes "script" ∷ workers_words workers
+command_words (of_split kind) = codes "split" ∷ kind_word kind ∷ []
 command_words (of_generate size) = codes "generate" ∷ decimal size ∷ []
 command_words (of_summary size workers) = codes "summary" ∷ decimal size ∷ workers_words workers
 
@@ -65,11 +69,12 @@ AreWorkers (Some workers) = (1 ≤ workers) × (workers ≤ 16)
 abbrev pub most_size : ℕ
 most_size = 10000
 
--- the commands that are offered: modules and atoms of the three kinds, sessions, and generated ontologies
+-- the commands that are offered: modules, atoms and parts of the three kinds, sessions, and generated ontologies
 abbrev pub IsOffered : Command → Type 0
 IsOffered (of_module kind seed) = AllByRecursion IsSeedEntity seed
 IsOffered (of_atoms kind workers) = AreWorkers workers
 IsOffered (of_script workers) = AreWorkers workers
+IsOffered (of_split kind) = Unit {0}
 IsOffered (of_generate size) = size ≤ most_size
 IsOffered (of_summary size workers) = (size ≤ most_size) × AreWorkers workers
 

@@ -16,6 +16,8 @@ pub enum Asked {
     Atoms(Kind, u32),
     /// A session, with so many workers.
     Script(u32),
+    /// The parts of this kind.
+    Split(Kind),
     /// The generated document of this size.
     Generate(u32),
     /// The summary of the generated ontology of this size, found by so many workers.
@@ -42,6 +44,7 @@ fn read_behind(first: &str, rest: &[Word]) -> Asked
         "module" => read_module(rest),
         "atoms" => read_atoms(rest),
         "script" => read_script(rest),
+        "split" => read_split(rest),
         "generate" => read_generate(rest),
         "summary" => read_summary(rest),
         _ => Asked::Nothing,
@@ -97,6 +100,26 @@ fn read_script(workers: &[Word]) -> Asked
 {
     match workers_of(workers) {
         Some(workers) => Asked::Script(workers),
+        None => Asked::Nothing,
+    }
+}
+
+// What `split` and the words behind it ask for.
+fn read_split(rest: &[Word]) -> Asked
+    ensures { AsksFor (codes "split" ∷ rest.now) result }
+{
+    match rest {
+        [kind] => read_split_of(kind.as_str()),
+        _ => Asked::Nothing,
+    }
+}
+
+// What `split` and the word of a kind ask for.
+fn read_split_of(kind: &str) -> Asked
+    ensures { AsksFor (codes "split" ∷ kind.now ∷ []) result }
+{
+    match kind_of(kind) {
+        Some(kind) => Asked::Split(kind),
         None => Asked::Nothing,
     }
 }

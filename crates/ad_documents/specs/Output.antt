@@ -11,7 +11,8 @@ use Rattle.ad_ontology_atoms.specs.OntologyAtoms.{IsShapeOf}
 use Rattle.ad_read.specs.Texts.{IsDocument}
 use Rattle.ad_reply.specs.Bodies.{IsModuleDocument}
 use Rattle.ad_shapes.specs.Shapes.{Shape}
-use Rattle.ad_command.specs.Command.{Command, of_module, of_atoms, of_script, of_generate, of_summary}
+use Rattle.ad_split.specs.Parts.{IsPartsText}
+use Rattle.ad_command.specs.Command.{Command, of_module, of_atoms, of_script, of_split, of_generate, of_summary}
 
 -- the text is a document, and this is its ontology, which is within the limits
 pub record IsOntology (text : List ℕ) (ontology : List Noted) : Type 0 where
@@ -35,6 +36,7 @@ abbrev pub IsOut : Command → List Noted → List ℕ → Type 0
 IsOut (of_module kind seed) ontology output = IsModuleDocument kind seed ontology output
 IsOut (of_atoms kind workers) ontology output = IsAtomsText kind ontology output
 IsOut (of_script workers) ontology output = ⊥
+IsOut (of_split kind) ontology output = IsPartsText kind ontology output
 IsOut (of_generate size) ontology output = ⊥
 IsOut (of_summary size workers) ontology output = ⊥
 

@@ -5,9 +5,11 @@ pub use answer::Answer;
 pub use atoms::answer_atoms;
 pub use laws::document_laws;
 pub use module::answer_module;
+pub use parts::answer_split;
 
 mod answer;
 mod atoms;
 mod laws;
 mod module;
 mod ontology;
+mod parts;

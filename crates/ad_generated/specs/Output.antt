@@ -1,7 +1,7 @@
 -- What a command writes of an ontology that it generates.
 use Rattle.std.specs.Prelude.{◌≡◌, ℕ, List, [], Option, Result, Ok, Err}
 use Rattle.ad_base.specs.declared.memory.Memory.{Memory}
-use Rattle.ad_command.specs.Command.{Command, of_module, of_atoms, of_script, of_generate, of_summary}
+use Rattle.ad_command.specs.Command.{Command, of_module, of_atoms, of_script, of_split, of_generate, of_summary}
 use Rattle.ad_gen.specs.Generated.{generated}
 use Rattle.ad_io.specs.Flow.{Gains}
 use Rattle.ad_io.specs.Sink.{Puts}
@@ -14,6 +14,7 @@ abbrev pub IsGenerated : Command → List ℕ → Type 0
 IsGenerated (of_module kind seed) output = ⊥
 IsGenerated (of_atoms kind workers) output = ⊥
 IsGenerated (of_script workers) output = ⊥
+IsGenerated (of_split kind) output = ⊥
 IsGenerated (of_generate size) output = output ≡ canon_document (generated size)
 IsGenerated (of_summary size workers) output = IsSummaryOf (generated size) output
 

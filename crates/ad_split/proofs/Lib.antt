@@ -1,0 +1,10 @@
+pub mod CoverLemmas
+pub mod ClosureLemmas
+pub mod TopLemmas
+pub mod CarriedLemmas
+pub mod TextLemmas
+pub mod GoingLemmas
+pub mod RowLemmas
+pub mod SizeLemmas
+pub mod PieceLemmas
+pub mod EditionLemmas
